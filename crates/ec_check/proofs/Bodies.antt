@@ -6,16 +6,16 @@ use Rattle.std.proofs.lemmas.List.{append-nil}
 use Rattle.ec_ast.specs.declared.Name.{Name}
 use Rattle.ec_ast.specs.declared.Operation.{Operation as OperationTree, out-Operation}
 use Rattle.ec_ast.specs.declared.Parameter.{Parameter}
-use Rattle.ec_ast.specs.declared.ProcessSection.{ProcessSection, out-ProcessSection}
+use Rattle.ec_ast.specs.declared.Section.{Section, out-Section}
 use Rattle.ec_check.proofs.Equations.{operation_step_of, process_step_of}
 use Rattle.ec_check.proofs.Headings.{same_env}
 use Rattle.ec_check.proofs.Steps.{gone_same, made_none, same_made}
 use Rattle.ec_check.specs.Making.{HasGone, HasMade, env_of, made_of}
-use Rattle.ec_check.specs.Parts.{Made, both_made, nothing_made, operation, operation_judged, OperationPart, ProcessPart}
+use Rattle.ec_check.specs.Parts.{Made, both_made, nothing_made, operation, operation_judged, OperationPart, SectionPart}
 use Rattle.ec_check.specs.Places.{Env}
 use Rattle.ec_check.specs.Resolving.{behind_block, behind_heading, behind_process, env_in, env_of_operation, heading_entries, heading_types}
 use Rattle.ec_check.specs.Resolving.{just_operation, member_made, operation_core, process_made, process_operation}
-use Rattle.ec_check.specs.Tree.{block_of, operation_of, operation_step, process_of, process_step}
+use Rattle.ec_check.specs.Tree.{block_of, operation_of, operation_step, section_of, section_step}
 use Rattle.ec_check.specs.declared.resolver.Resolver.{Resolver}
 use Rattle.ec_check.specs.declared.variables.Variables.{Variables}
 use Rattle.ec_types.specs.declared.conform.static_type.StaticType.{StaticType}
@@ -215,7 +215,7 @@ operation_made class o old begun done count fresh seen none block within before 
 
 -- ---- process sections
 
-process_part_gone : (class : ℕ) (own_name : Name) (p : ProcessPart) (old done : Resolver) (scope : Scope) (fresh : Variables)
+process_part_gone : (class : ℕ) (own_name : Name) (p : SectionPart) (old done : Resolver) (scope : Scope) (fresh : Variables)
     (none : List Operation) (block : Block) (within before : List Operation) (variables kept : Variables) (name : Text)
     (pushed all : List Operation) →
     scope ≡ in_a_process old.walk.scope →
@@ -255,20 +255,20 @@ process_part_gone class own_name p old done scope fresh none block within before
           (both_made (just_operation (process_operation class (env_of old) own_name p)) (p.block.made x))) s;
     }
 
-abbrev process_part : ProcessSection → ProcessPart
-process_part p = process_step (record { block = block_of (out-ProcessSection p).block; at = (out-ProcessSection p).at })
+abbrev section_part : Section → SectionPart
+section_part p = section_step (record { block = block_of (out-Section p).block; at = (out-Section p).at })
 
-abbrev ProcessGone : ℕ → Name → Resolver → Resolver → Option ProcessPart → Type 0
+abbrev ProcessGone : ℕ → Name → Resolver → Resolver → Option SectionPart → Type 0
 ProcessGone class name old new process =
     HasGone old new (behind_process (env_of old) process) [] (process_made class (env_of old) name process)
 
-process_same : (class : ℕ) (name : Name) {old new : Resolver} {p q : Option ProcessPart} → p ≡ q →
+process_same : (class : ℕ) (name : Name) {old new : Resolver} {p q : Option SectionPart} → p ≡ q →
     ProcessGone class name old new p → ProcessGone class name old new q
 process_same class name {old} {new} {p} {q} e h =
     gone_same (ap (behind_process (env_of old)) e) refl (ap (process_made class (env_of old) name) e) h
 
 -- where there is one: it stands before what its block made
-pub process_gone : (class : ℕ) (own_name : Name) (process : Option ProcessSection) (p : ProcessSection) (old done : Resolver)
+pub process_gone : (class : ℕ) (own_name : Name) (process : Option Section) (p : Section) (old done : Resolver)
     (scope : Scope) (fresh : Variables) (none : List Operation) (block : Block) (within before : List Operation)
     (variables kept : Variables)
     (name : Text) (pushed all : List Operation) →
@@ -277,10 +277,10 @@ pub process_gone : (class : ℕ) (own_name : Name) (process : Option ProcessSect
     fresh.numbers.items ≡ [] →
     fresh.types ≡ [] →
     none ≡ [] →
-    block ≡ (block_of (out-ProcessSection p).block).core (env_of (with_variables fresh (with_scope scope old))) →
+    block ≡ (block_of (out-Section p).block).core (env_of (with_variables fresh (with_scope scope old))) →
     HasGone (with_operations none (with_variables fresh (with_scope scope old))) done
-    (behind_block (env_of (with_variables fresh (with_scope scope old))) (block_of (out-ProcessSection p).block))
-    ((block_of (out-ProcessSection p).block).locals scope) ((block_of (out-ProcessSection p).block).made scope) →
+    (behind_block (env_of (with_variables fresh (with_scope scope old))) (block_of (out-Section p).block))
+    ((block_of (out-Section p).block).locals scope) ((block_of (out-Section p).block).made scope) →
     within ≡ done.made.operations →
     before ≡ old.made.operations →
     variables ≡ done.variables →
@@ -288,13 +288,13 @@ pub process_gone : (class : ℕ) (own_name : Name) (process : Option ProcessSect
     name ≡ own_name.text →
     pushed
     ≡ before
-    ++ operation_from class kind.Process name (out-ProcessSection p).at.from false 0 false variables.types block ∷ [] →
+    ++ operation_from class kind.Process name (out-Section p).at.from false 0 false variables.types block ∷ [] →
     all ≡ pushed ++ within →
     HasGone old (with_operations all (with_variables kept done))
-    (behind_process (env_of old) (option_map process_of process)) []
-    (process_made class (env_of old) own_name (option_map process_of process))
+    (behind_process (env_of old) (option_map section_of process)) []
+    (process_made class (env_of old) own_name (option_map section_of process))
 process_gone class own_name process p old done scope fresh none block within before variables kept name pushed all
     o s n t e k d w i v r f u a =
-    process_same class own_name (ap (λ x. Some x) (sym (process_step_of p)) ∙ ap (option_map process_of) (sym o))
-    (process_part_gone class own_name (process_part p) old done scope fresh none block within before variables kept name pushed all
+    process_same class own_name (ap (λ x. Some x) (sym (process_step_of p)) ∙ ap (option_map section_of) (sym o))
+    (process_part_gone class own_name (section_part p) old done scope fresh none block within before variables kept name pushed all
     s n t e k d w i v r f u a)

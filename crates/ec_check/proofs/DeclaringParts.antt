@@ -6,8 +6,8 @@ use Rattle.ec_ast.specs.declared.Parameter.{Parameter}
 use Rattle.ec_ast.specs.declared.Signature.{Signature}
 use Rattle.ec_ast.specs.declared.Span.{Span}
 use Rattle.ec_check.proofs.Every.{Every, every_joined, every_unmap, none_left, none_right, none_each, either}
-use Rattle.ec_check.specs.Parts.{Part, Piece, StatementPart, LinkPart, FactorPart, AddendPart, ArmPart, ProcessPart, OperationPart}
-use Rattle.ec_check.specs.Parts.{MemberPart, BodyPart, Holder, ObjectPart, link_judged, arm_judged, process_judged, operation_judged}
+use Rattle.ec_check.specs.Parts.{Part, Piece, StatementPart, LinkPart, FactorPart, AddendPart, ArmPart, SectionPart, OperationPart}
+use Rattle.ec_check.specs.Parts.{MemberPart, BodyPart, Holder, ObjectPart, link_judged, arm_judged, section_judged, operation_judged}
 use Rattle.ec_check.specs.Parts.{member_judged, holder_judged}
 use Rattle.ec_types.specs.Declarations as conform
 use Rattle.ec_types.specs.Declarations.{both, joined, nothing, if_there, operation_at, within_members, operations_behind}
@@ -78,8 +78,8 @@ DeclaringPiece b d = (scope : Scope) → (b.piece scope).faults ≡ [] → Sound
 abbrev pub DeclaringStatement : StatementPart → Declarations → Type 0
 DeclaringStatement x d = (scope : Scope) → (x.part.finished scope).faults ≡ [] → SoundTypes scope.table d
 
-abbrev pub DeclaringProcess : ProcessPart → Declarations → Type 0
-DeclaringProcess p d = (scope : Scope) → (process_finished scope (Some (process_judged p))).faults ≡ [] → SoundTypes scope.table d
+abbrev pub DeclaringProcess : SectionPart → Declarations → Type 0
+DeclaringProcess p d = (scope : Scope) → (process_finished scope (Some (section_judged p))).faults ≡ [] → SoundTypes scope.table d
 
 -- of a member
 pub record SoundMemberTypes (table : Table) (m : conform.MemberPart) : Type 0 where
@@ -103,7 +103,7 @@ abbrev pub DeclaringBody : BodyPart → conform.BodyPart → Type 0
 DeclaringBody b d = (scope : Scope) (is_monitored : Bool) →
     (members_finished scope is_monitored (map member_judged b.members)).faults ≡ [] →
     (finished_if scope (option_map (λ p. p.piece) b.initially)).faults ≡ [] →
-    (process_finished scope (option_map process_judged b.process)).faults ≡ [] → SoundBodyTypes scope.table d
+    (process_finished scope (option_map section_judged b.process)).faults ≡ [] → SoundBodyTypes scope.table d
 
 abbrev pub DeclaringObject : ObjectPart → Declarations → Type 0
 DeclaringObject o d = (scope : Scope) → faults_in_holder scope (holder_judged o.holder) ≡ [] → SoundTypes scope.table d

@@ -15,18 +15,18 @@ use Rattle.ec_ast.specs.declared.Body.{Body, out-Body}
 use Rattle.ec_ast.specs.declared.Factor.{Factor, out-Factor}
 use Rattle.ec_ast.specs.declared.ObjectConstructor.{ObjectConstructor, out-ObjectConstructor}
 use Rattle.ec_ast.specs.declared.Operation.{Operation, out-Operation}
-use Rattle.ec_ast.specs.declared.ProcessSection.{ProcessSection, out-ProcessSection}
+use Rattle.ec_ast.specs.declared.Section.{Section, out-Section}
 use Rattle.ec_check.proofs.Rolled.{rolled, addend_mapped, arm_mapped, block_mapped, factor_mapped, object_mapped, operation_mapped}
-use Rattle.ec_check.proofs.Rolled.{process_mapped}
+use Rattle.ec_check.proofs.Rolled.{section_mapped}
 use Rattle.ec_check.specs.Parts.{AnExpression, AStatement}
 use Rattle.ec_check.specs.Tree.{expression_step, link_step, member_step, statement_step, addend_step, arm_step, block_step}
-use Rattle.ec_check.specs.Tree.{body_step, factor_step, object_step, operation_step, process_step, parts}
+use Rattle.ec_check.specs.Tree.{body_step, factor_step, object_step, operation_step, section_step, parts}
 use Rattle.ec_check.specs.Tree.{part_of, link_of, member_of, statement_of, addend_of, arm_of, block_of, body_of, factor_of}
-use Rattle.ec_check.specs.Tree.{object_of, operation_of, process_of}
+use Rattle.ec_check.specs.Tree.{object_of, operation_of, section_of}
 use Rattle.ec_ast.specs.Layers as layers
 use Rattle.ec_ast.specs.Layers.{body_with}
 use Rattle.ec_ast.proofs.Rolled.{expression_stepped, statement_stepped, addend_stepped, arm_stepped, block_stepped}
-use Rattle.ec_ast.proofs.Rolled.{body_stepped, factor_stepped, object_stepped, operation_stepped, process_stepped}
+use Rattle.ec_ast.proofs.Rolled.{body_stepped, factor_stepped, object_stepped, operation_stepped, section_stepped}
 use Rattle.ec_ast.proofs.Rolled.{link_has, member_has}
 
 -- ---- the layer at the top, with its parts made
@@ -86,8 +86,8 @@ arm_step_of = arm_stepped rolled
 pub block_step_of : (x : Block) → block_of x ≡ block_step (block_mapped (out-Block x))
 block_step_of = block_stepped rolled
 
-pub process_step_of : (x : ProcessSection) → process_of x ≡ process_step (process_mapped (out-ProcessSection x))
-process_step_of = process_stepped rolled
+pub process_step_of : (x : Section) → section_of x ≡ section_step (section_mapped (out-Section x))
+process_step_of = section_stepped rolled
 
 pub operation_step_of : (x : Operation) → operation_of x ≡ operation_step (operation_mapped (out-Operation x))
 operation_step_of = operation_stepped rolled

@@ -18,32 +18,32 @@ use Rattle.ec_ast.specs.declared.Body.{Body, roll-Body}
 use Rattle.ec_ast.specs.declared.Factor.{Factor, roll-Factor}
 use Rattle.ec_ast.specs.declared.ObjectConstructor.{ObjectConstructor, roll-ObjectConstructor}
 use Rattle.ec_ast.specs.declared.Operation.{Operation, roll-Operation}
-use Rattle.ec_ast.specs.declared.ProcessSection.{ProcessSection, roll-ProcessSection}
+use Rattle.ec_ast.specs.declared.Section.{Section, roll-Section}
 use Rattle.ec_ast.specs.declared.Expression.TheOpen.{Expression-F, Link-F, Member-F, Statement-F}
 use Rattle.ec_check.proofs.Rolled.{expression_mapped, link_mapped, member_mapped, statement_mapped, addend_mapped, arm_mapped}
-use Rattle.ec_check.proofs.Rolled.{body_mapped, factor_mapped, object_mapped, operation_mapped, process_mapped}
+use Rattle.ec_check.proofs.Rolled.{body_mapped, factor_mapped, object_mapped, operation_mapped, section_mapped}
 use Rattle.ec_check.proofs.Rolled.{part_rolled, link_rolled, member_rolled, statement_rolled, addend_rolled, arm_rolled}
-use Rattle.ec_check.proofs.Rolled.{block_rolled, body_rolled, factor_rolled, object_rolled, operation_rolled, process_rolled}
+use Rattle.ec_check.proofs.Rolled.{block_rolled, body_rolled, factor_rolled, object_rolled, operation_rolled, section_rolled}
 use Rattle.ec_rules.proofs.Equations.{rolled as ruled}
 use Rattle.ec_ast.specs.Layers as layers
 use Rattle.ec_check.specs.Layers.{expression_judged, statement_judged}
 use Rattle.ec_check.specs.Parts.{Part, Piece, StatementPart}
 use Rattle.ec_check.specs.Parts.{link_judged, member_judged, addend_judged, arm_judged, body_judged, factor_judged}
-use Rattle.ec_check.specs.Parts.{object_judged, operation_judged, process_judged, holder_judged}
+use Rattle.ec_check.specs.Parts.{object_judged, operation_judged, section_judged, holder_judged}
 use Rattle.ec_check.specs.Tree.{expression_step, link_step, member_step, statement_step, addend_step, arm_step, block_step}
-use Rattle.ec_check.specs.Tree.{body_step, factor_step, object_step, operation_step, process_step}
+use Rattle.ec_check.specs.Tree.{body_step, factor_step, object_step, operation_step, section_step}
 use Rattle.ec_check.specs.Tree.{part_of, link_of, member_of, statement_of, addend_of, arm_of, block_of, body_of, factor_of}
-use Rattle.ec_check.specs.Tree.{object_of, operation_of, process_of, class_part}
+use Rattle.ec_check.specs.Tree.{object_of, operation_of, section_of, class_part}
 use Rattle.ec_rules.specs.Judging.{expression_part, link_part, member_part, statement_part, addend_part, arm_part}
-use Rattle.ec_rules.specs.Judging.{block_piece, body_part, factor_part, object_part, operation_part, process_part}
+use Rattle.ec_rules.specs.Judging.{block_piece, body_part, factor_part, object_part, operation_part, section_part}
 use Rattle.ec_rules.specs.Judging.{block_finished}
 use Rattle.ec_rules.specs.Parts as judged
 use Rattle.ec_rules.specs.Parts.{class_with}
 use Rattle.ec_rules.specs.Tree as judged_tree
 use Rattle.ec_ast.proofs.Claims.{Claims, Passes, Held, ExpressionWith, LinkWith, MemberWith, StatementWith, AddendWith}
-use Rattle.ec_ast.proofs.Claims.{ArmWith, BlockWith, BodyWith, FactorWith, ObjectWith, OperationWith, ProcessWith, bare_expression}
+use Rattle.ec_ast.proofs.Claims.{ArmWith, BlockWith, BodyWith, FactorWith, ObjectWith, OperationWith, SectionWith, bare_expression}
 use Rattle.ec_ast.proofs.Claims.{bare_link, bare_member, bare_statement, bare_addend, bare_arm, bare_block, bare_body, bare_factor}
-use Rattle.ec_ast.proofs.Claims.{bare_object, bare_operation, bare_process, expression_holds, link_holds}
+use Rattle.ec_ast.proofs.Claims.{bare_object, bare_operation, bare_section, expression_holds, link_holds}
 use Rattle.ec_ast.proofs.Claims.{statement_holds, body_holds, object_holds}
 use Rattle.ec_ast.proofs.Claims.{operation_holds}
 
@@ -82,8 +82,8 @@ IsSameObject x = object_judged (object_of x) ≡ judged_tree.object_of x
 abbrev IsSameOperation : Operation → Type 0
 IsSameOperation x = operation_judged (operation_of x) ≡ judged_tree.operation_of x
 
-abbrev IsSameProcess : ProcessSection → Type 0
-IsSameProcess x = process_judged (process_of x) ≡ judged_tree.process_of x
+abbrev IsSameProcess : Section → Type 0
+IsSameProcess x = section_judged (section_of x) ≡ judged_tree.section_of x
 
 abbrev same : Claims
 same = record {
@@ -98,7 +98,7 @@ same = record {
   factor = IsSameFactor;
   object = IsSameObject;
   operation = IsSameOperation;
-  process = IsSameProcess;
+  section = IsSameProcess;
 }
 
 -- ---- lists, and functions of several
@@ -143,7 +143,7 @@ expression_same (Expression-F.Expression::Variable name) = refl
 expression_same (Expression-F.Parenthesised x at) = one (λ p. Expression-F.Parenthesised p at) x.1
 expression_same (Expression-F.Constructor o) = one (λ p. Expression-F.Constructor p) o.1
 expression_same (Expression-F.NodeAt x at word) = one (λ p. Expression-F.NodeAt p at word) x.1
-expression_same (Expression-F.NodeCount at) = refl
+expression_same (Expression-F.NodeCount at word) = refl
 expression_same (Expression-F.NewVector of x at word) = one (λ p. Expression-F.NewVector of p at word) x.1
 expression_same (Expression-F.Postfix x links) =
     two (λ p ls. Expression-F.Postfix p ls) x.1 (each_same link_of link_judged judged_tree.link_of links)
@@ -266,18 +266,18 @@ arm_same y = ap₂ arm_with y.condition.1 y.block.1
 arm_at : (y : ArmWith same) → IsSameArm (roll-Arm (bare_arm same y))
 arm_at y = ap arm_judged (arm_rolled (bare_arm same y)) ∙ (arm_same y ∙ sym (ruled.arm (bare_arm same y)))
 
-abbrev process_with : Span → judged.Piece → judged.ProcessPart
+abbrev process_with : Span → judged.Piece → judged.SectionPart
 process_with at block = record { at = at; block = block }
 
-process_same : (y : ProcessWith same) →
-    process_judged (process_step (process_mapped (bare_process same y)))
-    ≡ process_part (layers.process_mapped judged_tree.parts (bare_process same y))
+process_same : (y : SectionWith same) →
+    section_judged (section_step (section_mapped (bare_section same y)))
+    ≡ section_part (layers.section_mapped judged_tree.parts (bare_section same y))
 process_same y = ap (process_with y.at) y.block.1
 
-process_at : (y : ProcessWith same) → IsSameProcess (roll-ProcessSection (bare_process same y))
+process_at : (y : SectionWith same) → IsSameProcess (roll-Section (bare_section same y))
 process_at y =
-    ap process_judged (process_rolled (bare_process same y))
-    ∙ (process_same y ∙ sym (ruled.process (bare_process same y)))
+    ap section_judged (section_rolled (bare_section same y))
+    ∙ (process_same y ∙ sym (ruled.process (bare_section same y)))
 
 abbrev operation_with : Name → List Parameter → Option Parameter → Name → judged.Piece → judged.OperationPart
 operation_with name parameters result end_name block = record {
@@ -314,7 +314,7 @@ object_at y =
     ap object_judged (object_rolled (bare_object same y))
     ∙ (object_same y ∙ sym (ruled.object (bare_object same y)))
 
-abbrev body_with : List judged.MemberPart → Option judged.Piece → Option judged.ProcessPart → judged.BodyPart
+abbrev body_with : List judged.MemberPart → Option judged.Piece → Option judged.SectionPart → judged.BodyPart
 body_with members initially process = record { members = members; initially = initially; process = process }
 
 abbrev body_layer : List (Held IsSameMember) → Option (Held IsSameBlock) → Option (Held IsSameProcess) → BodyWith same
@@ -353,7 +353,7 @@ passes = record {
   factor = factor_at;
   object = object_at;
   operation = operation_at;
-  process = process_at;
+  section = process_at;
 }
 
 pub same_part : (x : Expression) → (part_of x).part ≡ judged_tree.part_of x

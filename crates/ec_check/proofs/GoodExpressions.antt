@@ -75,7 +75,7 @@ parts_are_sound (Expression-F.Expression::Variable name) = tt
 parts_are_sound (Expression-F.Parenthesised x at) = x.1.0
 parts_are_sound (Expression-F.Constructor o) = o.1.0
 parts_are_sound (Expression-F.NodeAt x at word) = x.1.0
-parts_are_sound (Expression-F.NodeCount at) = tt
+parts_are_sound (Expression-F.NodeCount at word) = tt
 parts_are_sound (Expression-F.NewVector of x at word) = x.1.0
 parts_are_sound (Expression-F.Postfix x links) = (x.1.0, sound_links links)
 parts_are_sound (Expression-F.Negative x at) = x.1.0
@@ -102,7 +102,7 @@ name_negated (Literal of) d = tt
 name_negated form d = tt
 
 name_of_chain : (form : Form) (links : List judged.LinkPart) (d : Declarations) → NothingInName (form_of_chain form links) d
-name_of_chain (NameAlone name) (judged.call word arguments ∷ []) d =
+name_of_chain (NameAlone name) (judged.call word arguments marks ∷ []) d =
     either (λ form. NothingInName form d) (is_word word (codes "create")) (Created name) Other tt tt
 name_of_chain form links d = tt
 
@@ -117,7 +117,7 @@ name_declares (Expression-F.Expression::Variable name) = refl
 name_declares (Expression-F.Parenthesised x at) = name_within (part_of x.0).part.form (in_expression x.0)
 name_declares (Expression-F.Constructor o) = tt
 name_declares (Expression-F.NodeAt x at word) = tt
-name_declares (Expression-F.NodeCount at) = tt
+name_declares (Expression-F.NodeCount at word) = tt
 name_declares (Expression-F.NewVector of x at word) = tt
 name_declares (Expression-F.Postfix x links) =
     name_of_chain (part_of x.0).part.form (map link_judged (map link_of (trees links)))
@@ -146,7 +146,7 @@ layer_declares (Expression-F.Expression::Variable name) needed scope e = tt
 layer_declares (Expression-F.Parenthesised x at) needed scope e = x.1.1.declares true scope (none_left _ _ (none_left _ _ e))
 layer_declares (Expression-F.Constructor o) needed scope e = o.1.1 scope e
 layer_declares (Expression-F.NodeAt x at word) needed scope e = x.1.1.declares true scope (none_left _ _ (none_left _ _ e))
-layer_declares (Expression-F.NodeCount at) needed scope e = tt
+layer_declares (Expression-F.NodeCount at word) needed scope e = tt
 layer_declares (Expression-F.NewVector of x at word) needed scope e = x.1.1.declares true scope (none_left _ _ (none_left _ _ e))
 layer_declares (Expression-F.Postfix x links) needed scope e =
     postfix_declares needed scope (part_of x.0) (map link_of (trees links)) (in_expression x.0)

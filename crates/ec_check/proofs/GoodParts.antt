@@ -10,7 +10,7 @@ use Rattle.ec_ast.specs.declared.Body.{Body}
 use Rattle.ec_ast.specs.declared.Factor.{Factor}
 use Rattle.ec_ast.specs.declared.ObjectConstructor.{ObjectConstructor}
 use Rattle.ec_ast.specs.declared.Operation.{Operation}
-use Rattle.ec_ast.specs.declared.ProcessSection.{ProcessSection}
+use Rattle.ec_ast.specs.declared.Section.{Section}
 use Rattle.ec_places.proofs.DeclaredRolled.{in_operation}
 use Rattle.ec_check.proofs.DeclaringParts.{DeclaringPart, DeclaringLink, DeclaringMember, DeclaringStatement, DeclaringAddend, DeclaringArm}
 use Rattle.ec_check.proofs.DeclaringParts.{DeclaringPiece, DeclaringBody, DeclaringFactor, DeclaringObject, DeclaringOperation}
@@ -18,7 +18,7 @@ use Rattle.ec_check.proofs.DeclaringParts.{DeclaringProcess}
 use Rattle.ec_check.proofs.SoundParts.{SoundPart, SoundLink, SoundMember, SoundStatement, SoundAddend, SoundArm, SoundPiece, SoundBody}
 use Rattle.ec_check.proofs.SoundParts.{SoundFactor, SoundConstructor, SoundOperation, SoundProcess}
 use Rattle.ec_check.specs.Tree.{part_of, link_of, member_of, statement_of, addend_of, arm_of, block_of, body_of, factor_of}
-use Rattle.ec_check.specs.Tree.{object_of, operation_of, process_of}
+use Rattle.ec_check.specs.Tree.{object_of, operation_of, section_of}
 use Rattle.ec_types.specs.Declarations.{in_expression, in_link, in_member, in_statement, in_addend, in_arm, in_block, in_body}
 use Rattle.ec_types.specs.Declarations.{in_factor, in_constructor, in_process}
 use Rattle.ec_ast.proofs.Claims.{Claims}
@@ -58,8 +58,8 @@ IsGoodObject x = SoundConstructor (object_of x) × DeclaringObject (object_of x)
 abbrev pub IsGoodOperation : Operation → Type 0
 IsGoodOperation x = SoundOperation (operation_of x) × DeclaringOperation (operation_of x) (in_operation x)
 
-abbrev pub IsGoodProcess : ProcessSection → Type 0
-IsGoodProcess x = SoundProcess (process_of x) × DeclaringProcess (process_of x) (in_process x)
+abbrev pub IsGoodProcess : Section → Type 0
+IsGoodProcess x = SoundProcess (section_of x) × DeclaringProcess (section_of x) (in_process x)
 
 -- what is claimed of a part of each kind
 abbrev pub good : Claims
@@ -75,5 +75,5 @@ good = record {
   factor = IsGoodFactor;
   object = IsGoodObject;
   operation = IsGoodOperation;
-  process = IsGoodProcess;
+  section = IsGoodProcess;
 }

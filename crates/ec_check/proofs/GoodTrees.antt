@@ -10,7 +10,7 @@ use Rattle.ec_ast.specs.declared.Body.{Body, roll-Body}
 use Rattle.ec_ast.specs.declared.Factor.{roll-Factor}
 use Rattle.ec_ast.specs.declared.ObjectConstructor.{roll-ObjectConstructor}
 use Rattle.ec_ast.specs.declared.Operation.{roll-Operation}
-use Rattle.ec_ast.specs.declared.ProcessSection.{roll-ProcessSection}
+use Rattle.ec_ast.specs.declared.Section.{roll-Section}
 use Rattle.ec_ast.specs.declared.Expression.TheOpen.{Link-F, Member-F}
 use Rattle.ec_places.proofs.DeclaredRolled.{in_operation, link_declared, link_declares, member_declared, member_declares, addend_declared}
 use Rattle.ec_places.proofs.DeclaredRolled.{addend_declares, body_declared, body_declares, factor_declared, factor_declares}
@@ -25,11 +25,11 @@ use Rattle.ec_check.proofs.Every.{Every, none_left}
 use Rattle.ec_check.proofs.GoodExpressions.{each_good, each_pair, sound_parts, pairs, part_at}
 use Rattle.ec_check.proofs.GoodStatements.{statement_at, arm_at, block_at}
 use Rattle.ec_check.proofs.Rolled.{link_mapped, member_mapped, addend_mapped, body_mapped, factor_mapped, object_mapped, operation_mapped}
-use Rattle.ec_check.proofs.Rolled.{process_mapped, link_rolled, member_rolled, addend_rolled, body_rolled, factor_rolled, object_rolled}
-use Rattle.ec_check.proofs.Rolled.{operation_rolled, process_rolled}
+use Rattle.ec_check.proofs.Rolled.{section_mapped, link_rolled, member_rolled, addend_rolled, body_rolled, factor_rolled, object_rolled}
+use Rattle.ec_check.proofs.Rolled.{operation_rolled, section_rolled}
 use Rattle.ec_check.proofs.SoundParts.{SoundLink, SoundMember, SoundAddend, SoundBody, SoundFactor, SoundConstructor}
 use Rattle.ec_check.proofs.SoundParts.{SoundOperation, SoundProcess}
-use Rattle.ec_check.specs.Tree.{link_step, member_step, addend_step, body_step, factor_step, object_step, operation_step, process_step}
+use Rattle.ec_check.specs.Tree.{link_step, member_step, addend_step, body_step, factor_step, object_step, operation_step, section_step}
 use Rattle.ec_check.specs.Tree.{part_of, member_of}
 use Rattle.ec_types.specs.Declarations as conform
 use Rattle.ec_types.specs.Declarations.{both, within_members, nothing, in_expression, in_link, in_member, in_addend, in_block, in_body}
@@ -42,8 +42,8 @@ use Rattle.ec_types.specs.Scopes.{in_a_process}
 use Rattle.ec_check.proofs.GoodParts.{IsGoodPart, IsGoodLink, IsGoodMember, IsGoodStatement, IsGoodAddend, IsGoodBlock}
 use Rattle.ec_check.proofs.GoodParts.{IsGoodBody, IsGoodFactor, IsGoodObject, IsGoodOperation, IsGoodProcess, good}
 use Rattle.ec_ast.proofs.Claims.{Passes, Held, trees, LinkWith, MemberWith, AddendWith, BodyWith, FactorWith, ObjectWith}
-use Rattle.ec_ast.proofs.Claims.{OperationWith, ProcessWith, bare_link, bare_member, bare_addend, bare_body, bare_factor}
-use Rattle.ec_ast.proofs.Claims.{bare_object, bare_operation, bare_process, expression_holds, statement_holds, block_holds}
+use Rattle.ec_ast.proofs.Claims.{OperationWith, SectionWith, bare_link, bare_member, bare_addend, bare_body, bare_factor}
+use Rattle.ec_ast.proofs.Claims.{bare_object, bare_operation, bare_section, expression_holds, statement_holds, block_holds}
 use Rattle.ec_ast.proofs.Claims.{body_holds}
 
 -- ---- links
@@ -138,17 +138,17 @@ operation_at y = (
       (sym (operation_declares (bare_operation good y))) (operation_is_declaring y)),
 )
 
-process_is_declaring : (y : ProcessWith good) →
-    DeclaringProcess (process_step (process_mapped (bare_process good y)))
-    (conform.process_step (process_declared (bare_process good y)))
+process_is_declaring : (y : SectionWith good) →
+    DeclaringProcess (section_step (section_mapped (bare_section good y)))
+    (conform.section_step (process_declared (bare_section good y)))
 process_is_declaring y = λ scope e. y.block.1.1 (in_a_process scope) (none_left _ _ e)
 
-process_at : (y : ProcessWith good) → IsGoodProcess (roll-ProcessSection (bare_process good y))
+process_at : (y : SectionWith good) → IsGoodProcess (roll-Section (bare_section good y))
 process_at y = (
-  subst SoundProcess (sym (process_rolled (bare_process good y))) y.block.1.0,
-  subst (λ x. DeclaringProcess x (in_process (roll-ProcessSection (bare_process good y))))
-      (sym (process_rolled (bare_process good y)))
-      (subst (DeclaringProcess (process_step (process_mapped (bare_process good y)))) (sym (process_declares (bare_process good y)))
+  subst SoundProcess (sym (section_rolled (bare_section good y))) y.block.1.0,
+  subst (λ x. DeclaringProcess x (in_process (roll-Section (bare_section good y))))
+      (sym (section_rolled (bare_section good y)))
+      (subst (DeclaringProcess (section_step (section_mapped (bare_section good y)))) (sym (process_declares (bare_section good y)))
       (process_is_declaring y)),
 )
 
@@ -237,7 +237,7 @@ passes = record {
   factor = factor_at;
   object = object_at;
   operation = operation_at;
-  process = process_at;
+  section = process_at;
 }
 
 pub good_part : (x : Expression) → IsGoodPart x

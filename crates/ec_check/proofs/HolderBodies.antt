@@ -14,7 +14,7 @@ use Rattle.ec_check.proofs.Fusion.{same_object}
 use Rattle.ec_check.proofs.Headings.{same_env}
 use Rattle.ec_check.proofs.Steps.{gone_same, kept as kept_scope, made_gone, made_joined, same_made}
 use Rattle.ec_check.specs.Making.{HasGone, HasMade, env_of, holder_of, made_of}
-use Rattle.ec_check.specs.Parts.{Made, both_made, BodyPart, Holder, MemberPart, ObjectPart, Piece, ProcessPart, variable, constant}
+use Rattle.ec_check.specs.Parts.{Made, both_made, BodyPart, Holder, MemberPart, ObjectPart, Piece, SectionPart, variable, constant}
 use Rattle.ec_check.specs.Parts.{condition, operation}
 use Rattle.ec_check.specs.Parts.{holder_judged}
 use Rattle.ec_check.specs.Places.{Env, place_of}
@@ -25,7 +25,7 @@ use Rattle.ec_check.specs.Resolving.{initial_operation, initially_core, initiall
 use Rattle.ec_check.specs.Resolving.{member_made, members_made}
 use Rattle.ec_check.specs.Resolving.{number_of_holder, process_made}
 use Rattle.ec_check.specs.Resolving as spec
-use Rattle.ec_check.specs.Tree.{block_of, body_of, body_step, member_of, object_of, object_step, process_of}
+use Rattle.ec_check.specs.Tree.{block_of, body_of, body_step, member_of, object_of, object_step, section_of}
 use Rattle.ec_check.specs.declared.resolver.Resolver.{Resolver}
 use Rattle.ec_check.specs.declared.variables.Variables.{Variables}
 use Rattle.ec_types.specs.Types.{number_at}
@@ -147,7 +147,7 @@ abbrev body_part : Body → BodyPart
 body_part b = body_step (record {
   members = map member_of (out-Body b).members;
   initially = option_map block_of (out-Body b).initially;
-  process = option_map process_of (out-Body b).process;
+  process = option_map section_of (out-Body b).process;
 })
 
 abbrev holder_with : Heading → BodyPart → Holder
@@ -193,10 +193,10 @@ pub body_gone : (class : ℕ) (body : Body) (heading : Heading) (old behind_memb
     all ≡ pushed ++ within →
     HasGone (with_operations all (with_variables kept behind_initially)) new
     (behind_process (env_of (with_operations all (with_variables kept behind_initially)))
-    (option_map process_of (out-Body body).process)) []
+    (option_map section_of (out-Body body).process)) []
     (process_made class (env_of (with_operations all (with_variables kept behind_initially))) heading.name.now
-    (option_map process_of (out-Body body).process)) →
-    HasGone old new (behind_process (env_of old) (option_map process_of (out-Body body).process)) []
+    (option_map section_of (out-Body body).process)) →
+    HasGone old new (behind_process (env_of old) (option_map section_of (out-Body body).process)) []
     (body_made class (env_of old) (holder_of heading body))
 body_gone class body heading old behind_members behind_initially new fresh none seen stored statements within before variables kept name
     pushed all n t z o b m i s w l v r f p a q =
@@ -219,11 +219,11 @@ with_walk walk r = record r { walk = walk }
 abbrev pub with_classes : List Class → Resolver → Resolver
 with_classes classes r = record r { made = record r.made { classes = classes } }
 
-captures_behind : (env : Env) (process : Option ProcessPart) → (behind_process env process).captures ≡ env.captures
+captures_behind : (env : Env) (process : Option SectionPart) → (behind_process env process).captures ≡ env.captures
 captures_behind env None = refl
 captures_behind env (Some p) = refl
 
-outside_behind : (env : Env) (process : Option ProcessPart) → outside (behind_process env process).scope ≡ outside env.scope
+outside_behind : (env : Env) (process : Option SectionPart) → outside (behind_process env process).scope ≡ outside env.scope
 outside_behind env None = refl
 outside_behind env (Some p) = outside-process env.scope
 
@@ -235,8 +235,8 @@ module _ (body : Body) (heading : Heading) (old entered done : Resolver) (number
   abbrev around : Scope
   around = old.walk.scope
 
-  abbrev section : Option ProcessPart
-  section = option_map process_of (out-Body body).process
+  abbrev section : Option SectionPart
+  section = option_map section_of (out-Body body).process
 
   -- where the body begins
   abbrev pub within_holder : Resolver
@@ -253,7 +253,7 @@ module _ (body : Body) (heading : Heading) (old entered done : Resolver) (number
   pub holder_captures :
       captures ≡ captured (uses_within old.walk.scope (holder_seen heading body)) →
       held ≡ captures →
-      HasGone within_holder done (behind_process (env_of within_holder) (option_map process_of (out-Body body).process)) []
+      HasGone within_holder done (behind_process (env_of within_holder) (option_map section_of (out-Body body).process)) []
       (body_made number (env_of within_holder) (holder_of heading body)) →
       names ≡ done.captures →
       names ≡ captures_of old.walk.scope (holder_of heading body)
@@ -271,7 +271,7 @@ module _ (body : Body) (heading : Heading) (old entered done : Resolver) (number
       held ≡ captures →
       fresh.numbers.items ≡ [] →
       fresh.types ≡ [] →
-      HasGone within_holder done (behind_process (env_of within_holder) (option_map process_of (out-Body body).process)) []
+      HasGone within_holder done (behind_process (env_of within_holder) (option_map section_of (out-Body body).process)) []
       (body_made number (env_of within_holder) (holder_of heading body)) →
       kept ≡ entered.variables →
       outer ≡ entered.captures →

@@ -10,12 +10,12 @@ use Rattle.ec_ast.specs.declared.Body.{Body}
 use Rattle.ec_ast.specs.declared.Factor.{Factor}
 use Rattle.ec_ast.specs.declared.ObjectConstructor.{ObjectConstructor}
 use Rattle.ec_ast.specs.declared.Operation.{Operation}
-use Rattle.ec_ast.specs.declared.ProcessSection.{ProcessSection}
+use Rattle.ec_ast.specs.declared.Section.{Section}
 use Rattle.ec_places.proofs.DeclaredRolled.{in_operation}
 use Rattle.ec_check.proofs.NumberedKinds.{NumberedPart, NumberedLink, NumberedMember, NumberedStatement, NumberedAddend, NumberedArm}
 use Rattle.ec_check.proofs.NumberedKinds.{NumberedPiece, NumberedBody, NumberedFactor, NumberedObject, NumberedOperation, NumberedProcess}
 use Rattle.ec_check.specs.Tree.{part_of, link_of, member_of, statement_of, addend_of, arm_of, block_of, body_of, factor_of}
-use Rattle.ec_check.specs.Tree.{object_of, operation_of, process_of}
+use Rattle.ec_check.specs.Tree.{object_of, operation_of, section_of}
 use Rattle.ec_types.specs.Declarations.{in_expression, in_link, in_member, in_statement, in_addend, in_arm, in_block, in_body}
 use Rattle.ec_types.specs.Declarations.{in_factor, in_constructor, in_process}
 use Rattle.ec_ast.proofs.Claims.{Claims}
@@ -55,8 +55,8 @@ IsNumberedObject x = NumberedObject (object_of x) (in_constructor x)
 abbrev pub IsNumberedOperation : Operation → Type 0
 IsNumberedOperation x = NumberedOperation (operation_of x) (in_operation x)
 
-abbrev pub IsNumberedProcess : ProcessSection → Type 0
-IsNumberedProcess x = NumberedProcess (process_of x) (in_process x)
+abbrev pub IsNumberedProcess : Section → Type 0
+IsNumberedProcess x = NumberedProcess (section_of x) (in_process x)
 
 -- what is claimed of a part of each kind
 abbrev pub numbered : Claims
@@ -72,5 +72,5 @@ numbered = record {
   factor = IsNumberedFactor;
   object = IsNumberedObject;
   operation = IsNumberedOperation;
-  process = IsNumberedProcess;
+  section = IsNumberedProcess;
 }

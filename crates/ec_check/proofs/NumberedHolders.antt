@@ -9,7 +9,7 @@ use Rattle.ec_check.proofs.NumberedKinds.{NumberedBody, members_numbered, member
 use Rattle.ec_check.proofs.NumberedParts.{Has, numbers_of, Numbered, NumberedIn, within_class, both_in, nameless_in, none_both}
 use Rattle.ec_check.proofs.OwnOperations.{Declares, own_core, signatures_in, member_names, member_texts, operation_texts}
 use Rattle.ec_check.proofs.OwnOperations.{all_behind, own_are_new, signatures_are_new, exported_same}
-use Rattle.ec_check.specs.Parts.{Holder, MemberPart, holder_judged, member_judged, process_judged}
+use Rattle.ec_check.specs.Parts.{Holder, MemberPart, holder_judged, member_judged, section_judged}
 use Rattle.ec_check.specs.Places.{Env}
 use Rattle.ec_check.specs.Resolving.{body_made, class_core, env_of_body, holder_made, initial_operation, number_of_holder}
 use Rattle.ec_types.specs.Conforms.{operations_at}
@@ -63,7 +63,7 @@ abbrev pub faults_of_first : Scope → Holder → List StaticFault
 faults_of_first scope h = (finished_if (scope_of scope (holder_judged h)) (option_map (λ p. p.piece) h.body.initially)).faults
 
 abbrev pub faults_of_process : Scope → Holder → List StaticFault
-faults_of_process scope h = (process_finished (scope_of scope (holder_judged h)) (option_map process_judged h.body.process)).faults
+faults_of_process scope h = (process_finished (scope_of scope (holder_judged h)) (option_map section_judged h.body.process)).faults
 
 abbrev pub faults_of_body : Scope → Holder → List StaticFault
 faults_of_body scope h = faults_of_members scope h ++ (faults_of_first scope h ++ faults_of_process scope h)

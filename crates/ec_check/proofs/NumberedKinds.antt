@@ -9,9 +9,9 @@ use Rattle.ec_check.proofs.NumberedParts.{Numbered, NumberedIn, nothing_numbered
 use Rattle.ec_check.proofs.NumberedParts.{both_in, none_both}
 use Rattle.ec_check.proofs.OwnOperations.{Declares, own_core}
 use Rattle.ec_check.proofs.RangedChains.{chain_faultless}
-use Rattle.ec_check.specs.Parts.{Made, both_made, Part, Piece, StatementPart, LinkPart, FactorPart, AddendPart, ArmPart, ProcessPart}
+use Rattle.ec_check.specs.Parts.{Made, both_made, Part, Piece, StatementPart, LinkPart, FactorPart, AddendPart, ArmPart, SectionPart}
 use Rattle.ec_check.specs.Parts.{OperationPart, MemberPart, operation, BodyPart, ObjectPart, link_judged, factor_judged, addend_judged}
-use Rattle.ec_check.specs.Parts.{arm_judged, process_judged, member_judged, holder_judged}
+use Rattle.ec_check.specs.Parts.{arm_judged, section_judged, member_judged, holder_judged}
 use Rattle.ec_check.specs.Places.{Env}
 use Rattle.ec_check.specs.Resolving.{all_made, member_made, members_made, initially_made, process_made, holder_made, link_parts}
 use Rattle.ec_check.specs.Resolving.{parts_of_links, chain_parts, parts_of_chain}
@@ -62,7 +62,7 @@ NumberedArm a d = (scope : Scope) →
     Numbered scope.table (both_made (a.condition.made scope) (a.block.made scope)) d.types
     (piece_of_arm (arm_judged a) scope).faults
 
-abbrev pub NumberedProcess : ProcessPart → Declarations → Type 0
+abbrev pub NumberedProcess : SectionPart → Declarations → Type 0
 NumberedProcess p d = NumberedPiece p.block d
 
 pub record NumberedMember (m : MemberPart) (d : conform.MemberPart) : Type 0 where
@@ -85,7 +85,7 @@ pub record NumberedBody (b : BodyPart) (d : conform.BodyPart) : Type 0 where
       (finished_if scope (option_map (λ p. p.piece) b.initially)).faults
   pub process : (class : ℕ) (env : Env) (name : Name) →
       NumberedIn env.scope.table class [] (process_made class env name b.process) last
-      (process_finished env.scope (option_map process_judged b.process)).faults
+      (process_finished env.scope (option_map section_judged b.process)).faults
 
 abbrev pub NumberedObject : ObjectPart → Declarations → Type 0
 NumberedObject o d = (scope : Scope) →

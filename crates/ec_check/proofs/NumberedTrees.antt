@@ -12,7 +12,7 @@ use Rattle.ec_ast.specs.declared.Body.{Body, roll-Body}
 use Rattle.ec_ast.specs.declared.Factor.{roll-Factor}
 use Rattle.ec_ast.specs.declared.ObjectConstructor.{roll-ObjectConstructor}
 use Rattle.ec_ast.specs.declared.Operation.{roll-Operation}
-use Rattle.ec_ast.specs.declared.ProcessSection.{roll-ProcessSection}
+use Rattle.ec_ast.specs.declared.Section.{roll-Section}
 use Rattle.ec_ast.specs.declared.Expression.TheOpen.{Expression-F, Link-F, Member-F, Statement-F}
 use Rattle.ec_places.proofs.DeclaredRolled.{expression_declared, link_declared, member_declared, statement_declared}
 use Rattle.ec_places.proofs.DeclaredRolled.{addend_declared, arm_declared}
@@ -34,17 +34,17 @@ use Rattle.ec_check.proofs.NumberedKinds.{parts_numbered, factors_numbered, adde
 use Rattle.ec_check.proofs.NumberedParts.{Numbered, nothing_numbered, numbered_within, one_numbered, both_numbered, none_both}
 use Rattle.ec_check.proofs.NumberedParts.{within_class, in_within, both_in, named_in, nameless_in}
 use Rattle.ec_check.proofs.Rolled.{expression_mapped, link_mapped, member_mapped, statement_mapped, addend_mapped, arm_mapped, block_mapped}
-use Rattle.ec_check.proofs.Rolled.{body_mapped, factor_mapped, object_mapped, operation_mapped, process_mapped}
+use Rattle.ec_check.proofs.Rolled.{body_mapped, factor_mapped, object_mapped, operation_mapped, section_mapped}
 use Rattle.ec_check.proofs.Rolled.{part_rolled, link_rolled, member_rolled, statement_rolled, addend_rolled, arm_rolled}
 use Rattle.ec_check.proofs.Rolled.{block_rolled, body_rolled}
-use Rattle.ec_check.proofs.Rolled.{factor_rolled, object_rolled, operation_rolled, process_rolled}
+use Rattle.ec_check.proofs.Rolled.{factor_rolled, object_rolled, operation_rolled, section_rolled}
 use Rattle.ec_check.specs.Layers.{expression_judged, statement_judged}
 use Rattle.ec_check.specs.Parts.{ArmPart, StatementPart, both_made, arm_judged, operation_judged}
 use Rattle.ec_check.specs.Resolving.{expression_made, statement_made, statements_made, arms_made, operation_core, process_operation}
 use Rattle.ec_check.specs.Tree.{expression_step, link_step, member_step, statement_step, addend_step, arm_step, block_step}
 use Rattle.ec_check.specs.Tree.{body_step, factor_step}
-use Rattle.ec_check.specs.Tree.{object_step, operation_step, process_step}
-use Rattle.ec_check.specs.Tree.{part_of, link_of, member_of, statement_of, addend_of, arm_of, block_of, factor_of, process_of}
+use Rattle.ec_check.specs.Tree.{object_step, operation_step, section_step}
+use Rattle.ec_check.specs.Tree.{part_of, link_of, member_of, statement_of, addend_of, arm_of, block_of, factor_of, section_of}
 use Rattle.ec_types.specs.Declarations as conform
 use Rattle.ec_types.specs.Declarations.{joined, in_expression, in_link, in_member, in_statement, in_addend, in_arm, in_block, in_body}
 use Rattle.ec_types.specs.Declarations.{in_factor, in_constructor, in_process}
@@ -62,9 +62,9 @@ use Rattle.ec_check.proofs.NumberedHeld.{IsNumberedPart, IsNumberedLink, IsNumbe
 use Rattle.ec_check.proofs.NumberedHeld.{IsNumberedArm, IsNumberedBlock, IsNumberedBody, IsNumberedFactor, IsNumberedObject}
 use Rattle.ec_check.proofs.NumberedHeld.{IsNumberedOperation, IsNumberedProcess, numbered}
 use Rattle.ec_ast.proofs.Claims.{Passes, Held, trees, ExpressionWith, LinkWith, MemberWith, StatementWith, AddendWith, ArmWith}
-use Rattle.ec_ast.proofs.Claims.{BlockWith, BodyWith, FactorWith, ObjectWith, OperationWith, ProcessWith, bare_expression}
+use Rattle.ec_ast.proofs.Claims.{BlockWith, BodyWith, FactorWith, ObjectWith, OperationWith, SectionWith, bare_expression}
 use Rattle.ec_ast.proofs.Claims.{bare_link, bare_member, bare_statement, bare_addend, bare_arm, bare_block, bare_body, bare_factor}
-use Rattle.ec_ast.proofs.Claims.{bare_object, bare_operation, bare_process, expression_holds, body_holds}
+use Rattle.ec_ast.proofs.Claims.{bare_object, bare_operation, bare_section, expression_holds, body_holds}
 
 -- ---- expressions
 
@@ -98,7 +98,7 @@ layer_numbered (Expression-F.Parenthesised x at) needed scope =
     one_numbered (λ e. none_left _ _ (none_left _ _ e)) (x.1 true scope)
 layer_numbered (Expression-F.Constructor o) needed scope = o.1 scope
 layer_numbered (Expression-F.NodeAt x at word) needed scope = one_numbered (λ e. none_left _ _ (none_left _ _ e)) (x.1 true scope)
-layer_numbered (Expression-F.NodeCount at) needed scope = nothing_numbered
+layer_numbered (Expression-F.NodeCount at word) needed scope = nothing_numbered
 layer_numbered (Expression-F.NewVector of x at word) needed scope =
     one_numbered (λ e. none_left _ _ (none_left _ _ e)) (x.1 true scope)
 layer_numbered (Expression-F.Postfix x links) needed scope =
@@ -363,16 +363,16 @@ operation_at y =
 
 -- ---- bodies
 
-process_is : (y : ProcessWith numbered) →
-    NumberedProcess (process_step (process_mapped (bare_process numbered y)))
-    (conform.process_step (process_declared (bare_process numbered y)))
+process_is : (y : SectionWith numbered) →
+    NumberedProcess (section_step (section_mapped (bare_section numbered y)))
+    (conform.section_step (process_declared (bare_section numbered y)))
 process_is y = λ scope. y.block.1 scope
 
-process_at : (y : ProcessWith numbered) → IsNumberedProcess (roll-ProcessSection (bare_process numbered y))
+process_at : (y : SectionWith numbered) → IsNumberedProcess (roll-Section (bare_section numbered y))
 process_at y =
-    subst (λ x. NumberedProcess x (in_process (roll-ProcessSection (bare_process numbered y))))
-    (sym (process_rolled (bare_process numbered y)))
-    (subst (NumberedProcess (process_step (process_mapped (bare_process numbered y)))) (sym (process_declares (bare_process numbered y)))
+    subst (λ x. NumberedProcess x (in_process (roll-Section (bare_section numbered y))))
+    (sym (section_rolled (bare_section numbered y)))
+    (subst (NumberedProcess (section_step (section_mapped (bare_section numbered y)))) (sym (process_declares (bare_section numbered y)))
     (process_is y))
 
 abbrev body_layer : List (Held IsNumberedMember) → Option (Held IsNumberedBlock) → Option (Held IsNumberedProcess) → BodyWith numbered
@@ -401,7 +401,7 @@ body_is ms None (Some p) = record {
   initially = λ scope. nothing_numbered;
   process = λ class env name.
       in_within (λ e. none_left _ _ e)
-      (both_in (nameless_in env.scope.table (process_operation class env name (process_of p.0)) refl)
+      (both_in (nameless_in env.scope.table (process_operation class env name (section_of p.0)) refl)
       (within_class class (p.1 (in_a_process env.scope))));
 }
 body_is ms (Some i) None = record {
@@ -420,7 +420,7 @@ body_is ms (Some i) (Some p) = record {
   initially = λ scope. i.1 scope;
   process = λ class env name.
       in_within (λ e. none_left _ _ e)
-      (both_in (nameless_in env.scope.table (process_operation class env name (process_of p.0)) refl)
+      (both_in (nameless_in env.scope.table (process_operation class env name (section_of p.0)) refl)
       (within_class class (p.1 (in_a_process env.scope))));
 }
 
@@ -459,7 +459,7 @@ passes = record {
   factor = factor_at;
   object = object_at;
   operation = operation_at;
-  process = process_at;
+  section = process_at;
 }
 
 pub numbered_part : (x : Expression) → IsNumberedPart x

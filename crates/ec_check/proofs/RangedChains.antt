@@ -41,7 +41,7 @@ use Rattle.ec_types.specs.Scopes.{class_named}
 -- ---- the parts of links
 
 link_same : (l : LinkPart) → calls.link_parts (link_judged l) ≡ map (λ p. p.part) (link_parts l)
-link_same (call name arguments) = refl
+link_same (call name arguments marks) = refl
 link_same (index number at) = refl
 
 pub links_same : (ls : List LinkPart) → each calls.link_parts (map link_judged ls) ≡ map (λ p. p.part) (parts_of_links ls)
@@ -53,7 +53,7 @@ links_same (l ∷ ls) =
 
 every_link_part : (ls : List LinkPart) → Every RangedLink ls → Every RangedPart (parts_of_links ls)
 every_link_part [] h = tt
-every_link_part (call name arguments ∷ ls) h =
+every_link_part (call name arguments marks ∷ ls) h =
     every_joined RangedPart arguments (parts_of_links ls) h.0 (every_link_part ls h.1)
 every_link_part (index number at ∷ ls) h = (h.0, every_link_part ls h.1)
 
@@ -98,7 +98,7 @@ element_counted number of at = link_has (l.Element number of at) (CoreLink-F.Ele
 
 link_counted : (env : Env) (before : Receiver) (l : LinkPart) →
     in_link (link_core env before l) ≡ joined (map in_expression (cores_of env (link_parts l)))
-link_counted env before (call name arguments) =
+link_counted env before (call name arguments marks) =
     called_counted (builtin_of (calls.type_of_receiver env.scope before) name) name (cores_of env arguments)
     (calls.result_of (callee env.scope before name))
 link_counted env before (index number at) =
@@ -130,7 +130,7 @@ chained_counted head (l ∷ ls) = expression_has (e.Chain head (l ∷ ls)) (Core
 
 -- what stands first behind a class is a call with as many arguments as it has parameters
 abbrev pub IsCreation : Scope → Receiver → List LinkPart → Type 0
-IsCreation scope (Creation name) (call word arguments ∷ ls) =
+IsCreation scope (Creation name) (call word arguments marks ∷ ls) =
     Where (λ (c : ClassMeant). length c.parameters ≡ length arguments) (class_named scope name.text)
     × (is_some (class_named scope name.text) ≡ true)
 IsCreation scope (Creation name) (index number at ∷ ls) = ⊥
@@ -151,7 +151,7 @@ creation_links : (scope : Scope) (head : Span) (needed clean : Bool) (name : Nam
     faults_of_links scope head needed (Creation name) clean (map link_judged ls) ≡ [] → IsCreation scope (Creation name) ls
 creation_links scope head needed clean name [] c s e = not_both c
 creation_links scope head needed clean name (index number at ∷ ls) c s e = not_both c
-creation_links scope head needed clean name (call word arguments ∷ ls) c s e = (
+creation_links scope head needed clean name (call word arguments marks ∷ ls) c s e = (
   arity_of scope _ (class_named scope name.text) arguments
       (test_holds _ _ _ (none_left _ _ (none_right _ _ (none_right _ _ (none_left _ _ e))))),
   s,
@@ -205,7 +205,7 @@ created_counted class l ls =
     (length-map (arguments_in (out-Link l)) in_expression))
 
 pub creation_arguments : (env : Env) (name word : Name) (arguments : List Part) →
-    arguments_in (out-Link (link_core env (Creation name) (call word arguments))) ≡ cores_of env arguments
+    arguments_in (out-Link (link_core env (Creation name) (call word arguments marks))) ≡ cores_of env arguments
 creation_arguments env name word arguments =
     ap (λ x. arguments_in (out-Link x))
     (sym
@@ -215,28 +215,28 @@ creation_arguments env name word arguments =
     (CoreLink-F.Invoke word.text (cores_of env arguments) (calls.result_of (callee env.scope (Creation name) word)) word.at.from))
 
 creation_counted : (env : Env) (name word : Name) (head : Part) (arguments : List Part) (ls : List LinkPart) →
-    in_expression (chain_core env (Creation name) head (call word arguments ∷ ls))
+    in_expression (chain_core env (Creation name) head (call word arguments marks ∷ ls))
     ≡ Created (number_of_class (class_named env.scope name.text)) (length arguments)
-    ∷ joined (map in_expression (cores_of env (parts_of_links (call word arguments ∷ ls))))
+    ∷ joined (map in_expression (cores_of env (parts_of_links (call word arguments marks ∷ ls))))
 creation_counted env name word head arguments ls =
-    created_counted (number_of_class (class_named env.scope name.text)) (link_core env (Creation name) (call word arguments))
-    (links_core env (Typed (link_type env.scope (Creation name) (link_judged (call word arguments)))) ls)
+    created_counted (number_of_class (class_named env.scope name.text)) (link_core env (Creation name) (call word arguments marks))
+    (links_core env (Typed (link_type env.scope (Creation name) (link_judged (call word arguments marks)))) ls)
     ∙ ap
     (λ x.
     (Created (number_of_class (class_named env.scope name.text)) (length x) ∷ joined (map in_expression x))
-    ++ joined (map in_link (links_core env (Typed (link_type env.scope (Creation name) (link_judged (call word arguments)))) ls)))
+    ++ joined (map in_link (links_core env (Typed (link_type env.scope (Creation name) (link_judged (call word arguments marks)))) ls)))
     (creation_arguments env name word arguments)
     ∙ ap
     (λ x.
     Created (number_of_class (class_named env.scope name.text)) (length (cores_of env arguments))
     ∷ (joined (map in_expression (cores_of env arguments)) ++ x))
-    (links_counted env (Typed (link_type env.scope (Creation name) (link_judged (call word arguments)))) ls)
+    (links_counted env (Typed (link_type env.scope (Creation name) (link_judged (call word arguments marks)))) ls)
     ∙ ap (λ x. Created (number_of_class (class_named env.scope name.text)) (length (cores_of env arguments)) ∷ x)
     (sym (cores_joined env arguments (parts_of_links ls)))
     ∙ ap
     (λ n.
     Created (number_of_class (class_named env.scope name.text)) n
-    ∷ joined (map in_expression (cores_of env (parts_of_links (call word arguments ∷ ls)))))
+    ∷ joined (map in_expression (cores_of env (parts_of_links (call word arguments marks ∷ ls)))))
     (length-map arguments (λ p. p.core env))
 
 valued_counted : (env : Env) (before : Receiver) (head : Part) (ls : List LinkPart) →
@@ -255,10 +255,10 @@ pub chain_ranged : (limits : Limits) (env : Env) (before : Receiver) (head : Par
     Ranged limits (in_expression (chain_core env before head ls)) (all_made env.scope (chain_parts before head ls)).operations
 chain_ranged limits env (Creation name) head [] c h k r = absurd c
 chain_ranged limits env (Creation name) head (index number at ∷ ls) c h k r = absurd c
-chain_ranged limits env (Creation name) head (call word arguments ∷ ls) c h k r =
-    let parts : Ranged limits (joined (map in_expression (cores_of env (parts_of_links (call word arguments ∷ ls)))))
-    (all_made env.scope (parts_of_links (call word arguments ∷ ls))).operations =
-    parts_ranged limits env (parts_of_links (call word arguments ∷ ls)) (every_link_part (call word arguments ∷ ls) k) r in
+chain_ranged limits env (Creation name) head (call word arguments marks ∷ ls) c h k r =
+    let parts : Ranged limits (joined (map in_expression (cores_of env (parts_of_links (call word arguments marks ∷ ls)))))
+    (all_made env.scope (parts_of_links (call word arguments marks ∷ ls))).operations =
+    parts_ranged limits env (parts_of_links (call word arguments marks ∷ ls)) (every_link_part (call word arguments marks ∷ ls) k) r in
     same_ranged (creation_counted env name word head arguments ls)
     (record {
       numbers = (

@@ -49,7 +49,7 @@ RangedParts (Expression-F.Expression::Variable name) = Unit {0}
 RangedParts (Expression-F.Parenthesised x at) = RangedPart x
 RangedParts (Expression-F.Constructor o) = RangedConstructor o
 RangedParts (Expression-F.NodeAt x at word) = RangedPart x
-RangedParts (Expression-F.NodeCount at) = Unit {0}
+RangedParts (Expression-F.NodeCount at word) = Unit {0}
 RangedParts (Expression-F.NewVector of x at word) = RangedPart x
 RangedParts (Expression-F.Postfix x links) = RangedPart x × Every RangedLink links
 RangedParts (Expression-F.Negative x at) = RangedPart x
@@ -91,7 +91,7 @@ used_in (Expression-F.Expression::Variable name) h scope = held_name scope name
 used_in (Expression-F.Parenthesised x at) h scope = parts_used scope (x ∷ []) (h, tt)
 used_in (Expression-F.Constructor o) h scope = holder_used scope o.holder h
 used_in (Expression-F.NodeAt x at word) h scope = parts_used scope (x ∷ []) (h, tt)
-used_in (Expression-F.NodeCount at) h scope = tt
+used_in (Expression-F.NodeCount at word) h scope = tt
 used_in (Expression-F.NewVector of x at word) h scope = parts_used scope (x ∷ []) (h, tt)
 used_in (Expression-F.Postfix x links) h scope =
     subst
@@ -236,7 +236,7 @@ layer_ranged (Expression-F.Constructor o) h needed limits env r = constructor_ra
 layer_ranged (Expression-F.NodeAt x at word) h needed limits env r =
     one_ranged limits env x (e.NodeAt (x.core env) word.from) _ h
     (expression_has (e.NodeAt (x.core env) word.from) (Core-F.NodeAt (x.core env) word.from) (e.rolls-NodeAt (x.core env) word.from)) r
-layer_ranged (Expression-F.NodeCount at) h needed limits env r =
+layer_ranged (Expression-F.NodeCount at word) h needed limits env r =
     nothing_ranged e.NodeCount (expression_has e.NodeCount Core-F.NodeCount e.rolls-NodeCount)
 layer_ranged (Expression-F.NewVector of x at word) h needed limits env r =
     one_ranged limits env x (e.NewVector (vector_of (written_in env.scope of)) (x.core env) word.from) _ h

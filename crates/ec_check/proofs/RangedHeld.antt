@@ -10,12 +10,12 @@ use Rattle.ec_ast.specs.declared.Body.{Body}
 use Rattle.ec_ast.specs.declared.Factor.{Factor}
 use Rattle.ec_ast.specs.declared.ObjectConstructor.{ObjectConstructor}
 use Rattle.ec_ast.specs.declared.Operation.{Operation}
-use Rattle.ec_ast.specs.declared.ProcessSection.{ProcessSection}
+use Rattle.ec_ast.specs.declared.Section.{Section}
 use Rattle.ec_check.proofs.RangedParts.{RangedPart, RangedLink, RangedMember, RangedStatement, RangedAddend, RangedArm, RangedPiece}
 use Rattle.ec_check.proofs.RangedParts.{RangedBody}
 use Rattle.ec_check.proofs.RangedParts.{RangedFactor, RangedConstructor, RangedOperation, RangedProcess}
 use Rattle.ec_check.specs.Tree.{part_of, link_of, member_of, statement_of, addend_of, arm_of, block_of, body_of, factor_of}
-use Rattle.ec_check.specs.Tree.{object_of, operation_of, process_of}
+use Rattle.ec_check.specs.Tree.{object_of, operation_of, section_of}
 use Rattle.ec_ast.proofs.Claims.{Claims}
 
 -- ---- each kind of part
@@ -53,8 +53,8 @@ IsRangedObject x = RangedConstructor (object_of x)
 abbrev pub IsRangedOperation : Operation → Type 0
 IsRangedOperation x = RangedOperation (operation_of x)
 
-abbrev pub IsRangedProcess : ProcessSection → Type 0
-IsRangedProcess x = RangedProcess (process_of x)
+abbrev pub IsRangedProcess : Section → Type 0
+IsRangedProcess x = RangedProcess (section_of x)
 
 -- what is claimed of a part of each kind
 abbrev pub ranged : Claims
@@ -70,5 +70,5 @@ ranged = record {
   factor = IsRangedFactor;
   object = IsRangedObject;
   operation = IsRangedOperation;
-  process = IsRangedProcess;
+  section = IsRangedProcess;
 }

@@ -13,8 +13,8 @@ use Rattle.ec_check.proofs.NumbersRolled.{statement_has, block_rolled}
 use Rattle.ec_check.proofs.RangedParts.{Ready, Ranged, RangedPiece, RangedMember, RangedHolder, RangedProcess, ClassesWithin}
 use Rattle.ec_check.proofs.RangedParts.{first_ready, second_ready, ready_within, each_joined, any_of}
 use Rattle.ec_check.specs.Numbers.{Kept, Whole, Limits, InRange, IsOperation, limits_of, joined, in_expression, in_statement, in_block}
-use Rattle.ec_check.specs.Parts.{Piece, ProcessPart, OperationPart, MemberPart, variable, constant, condition, operation, Holder}
-use Rattle.ec_check.specs.Parts.{member_judged, operation_judged, process_judged, holder_judged}
+use Rattle.ec_check.specs.Parts.{Piece, SectionPart, OperationPart, MemberPart, variable, constant, condition, operation, Holder}
+use Rattle.ec_check.specs.Parts.{member_judged, operation_judged, section_judged, holder_judged}
 use Rattle.ec_check.specs.Places.{Env, field_named, fields_of, names_of}
 use Rattle.ec_check.specs.Resolving.{env_of_operation, operation_core, heading_types, member_made, members_made, field_of, stored}
 use Rattle.ec_check.specs.Resolving.{field_stored}
@@ -64,8 +64,8 @@ initially_used : (scope : Scope) (b : Option Piece) → Where RangedPiece b →
 initially_used scope None h = tt
 initially_used scope (Some b) h = h.uses scope
 
-process_used : (scope : Scope) (p : Option ProcessPart) → Where RangedProcess p →
-    UsesHeld scope (process_finished scope (option_map process_judged p)).uses
+process_used : (scope : Scope) (p : Option SectionPart) → Where RangedProcess p →
+    UsesHeld scope (process_finished scope (option_map section_judged p)).uses
 process_used scope None h = tt
 process_used scope (Some p) h =
     held_changed at_process scope (p.block.piece (in_a_process scope)).uses (h.uses (in_a_process scope))
@@ -75,7 +75,7 @@ body_used scope h k =
     held_both scope
     ((members_finished scope h.is_monitored (map member_judged h.body.members)).uses
     ++ (finished_if scope (option_map (λ p. p.piece) h.body.initially)).uses)
-    (process_finished scope (option_map process_judged h.body.process)).uses
+    (process_finished scope (option_map section_judged h.body.process)).uses
     (held_both scope (members_finished scope h.is_monitored (map member_judged h.body.members)).uses
     (finished_if scope (option_map (λ p. p.piece) h.body.initially)).uses
     (members_used scope h.is_monitored h.body.members k.members) (initially_used scope h.body.initially k.initially))
@@ -224,10 +224,10 @@ initially_ranged limits env (Some b) h r l =
       operations = done.operations;
     }
 
-process_ranged : (whole : Whole) (c : Class) (env : Env) (name : Name) (p : Option ProcessPart) → Contains whole.classes c →
+process_ranged : (whole : Whole) (c : Class) (env : Env) (name : Name) (p : Option SectionPart) → Contains whole.classes c →
     BodyFits whole c env → Where RangedProcess p →
-    (env.captures ≡ [] → uses_outside (process_finished env.scope (option_map process_judged p)).uses ≡ []) →
-    (process_finished env.scope (option_map process_judged p)).faults ≡ [] →
+    (env.captures ≡ [] → uses_outside (process_finished env.scope (option_map section_judged p)).uses ≡ []) →
+    (process_finished env.scope (option_map section_judged p)).faults ≡ [] →
     ClassesWithin whole (process_made c.number env name p).classes →
     Every (IsOperation whole) (process_made c.number env name p).operations
 process_ranged whole c env name None there f h reach e w = tt
@@ -273,8 +273,8 @@ record BodyReady (whole : Whole) (scope : Scope) (h : Holder) : Type 0 where
       (finished_if (scope_of scope (holder_judged h)) (option_map (λ p. p.piece) h.body.initially)).faults
       (initially_made (scope_of scope (holder_judged h)) h.body.initially).classes
   reach : captures_of scope h ≡ [] →
-      uses_outside (process_finished (scope_of scope (holder_judged h)) (option_map process_judged h.body.process)).uses ≡ []
-  faultless : (process_finished (scope_of scope (holder_judged h)) (option_map process_judged h.body.process)).faults ≡ []
+      uses_outside (process_finished (scope_of scope (holder_judged h)) (option_map section_judged h.body.process)).uses ≡ []
+  faultless : (process_finished (scope_of scope (holder_judged h)) (option_map section_judged h.body.process)).faults ≡ []
   within : ClassesWithin whole (process_made (class_core scope h).number (env_of_body scope h) h.name h.body.process).classes
 
 abbrev member_uses : Scope → Holder → List Use
@@ -284,7 +284,7 @@ abbrev initial_uses : Scope → Holder → List Use
 initial_uses scope h = (finished_if (scope_of scope (holder_judged h)) (option_map (λ p. p.piece) h.body.initially)).uses
 
 abbrev process_uses : Scope → Holder → List Use
-process_uses scope h = (process_finished (scope_of scope (holder_judged h)) (option_map process_judged h.body.process)).uses
+process_uses scope h = (process_finished (scope_of scope (holder_judged h)) (option_map section_judged h.body.process)).uses
 
 body_ready : (whole : Whole) (scope : Scope) (h : Holder) → GlobalsAre whole scope.globals →
     faults_in_holder scope (holder_judged h) ≡ [] → ClassesWithin whole (holder_made scope h).classes → BodyReady whole scope h

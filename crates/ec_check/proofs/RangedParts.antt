@@ -6,7 +6,7 @@ use Rattle.ec_check.proofs.CapturedNames.{UsesHeld, held_both, none_outside_left
 use Rattle.ec_check.proofs.Every.{Every, Where, every_joined, every_left, every_right, none_left, none_right}
 use Rattle.ec_check.proofs.FoundPlaces.{Fits}
 use Rattle.ec_check.specs.Numbers.{Number, Whole, Limits, InRange, IsOperation, joined, in_expression, in_statement, in_block}
-use Rattle.ec_check.specs.Parts.{Part, Piece, StatementPart, LinkPart, call, index, FactorPart, AddendPart, ArmPart, ProcessPart}
+use Rattle.ec_check.specs.Parts.{Part, Piece, StatementPart, LinkPart, call, index, FactorPart, AddendPart, ArmPart, SectionPart}
 use Rattle.ec_check.specs.Parts.{OperationPart, MemberPart, variable, constant, condition, operation, BodyPart, Holder, ObjectPart}
 use Rattle.ec_check.specs.Places.{Env}
 use Rattle.ec_check.specs.Resolving.{all_made, cores_of}
@@ -95,7 +95,7 @@ pub record RangedStatement (x : StatementPart) : Type 0 where
       Ranged limits (in_statement (x.core env)) (x.made env.scope).operations
 
 abbrev pub RangedLink : LinkPart → Type 0
-RangedLink (call name arguments) = Every RangedPart arguments
+RangedLink (call name arguments marks) = Every RangedPart arguments
 RangedLink (index number at) = RangedPart number
 
 abbrev pub RangedFactor : FactorPart → Type 0
@@ -107,7 +107,7 @@ RangedAddend a = RangedPart a.value
 abbrev pub RangedArm : ArmPart → Type 0
 RangedArm a = RangedPart a.condition × RangedPiece a.block
 
-abbrev pub RangedProcess : ProcessPart → Type 0
+abbrev pub RangedProcess : SectionPart → Type 0
 RangedProcess p = RangedPiece p.block
 
 abbrev pub RangedOperation : OperationPart → Type 0

@@ -12,7 +12,7 @@ use Rattle.ec_ast.specs.declared.Body.{Body, roll-Body}
 use Rattle.ec_ast.specs.declared.Factor.{roll-Factor}
 use Rattle.ec_ast.specs.declared.ObjectConstructor.{roll-ObjectConstructor}
 use Rattle.ec_ast.specs.declared.Operation.{roll-Operation}
-use Rattle.ec_ast.specs.declared.ProcessSection.{roll-ProcessSection}
+use Rattle.ec_ast.specs.declared.Section.{roll-Section}
 use Rattle.ec_ast.specs.declared.Expression.TheOpen.{Expression-F, Link-F, Member-F, Statement-F}
 use Rattle.ec_check.proofs.Every.{Every}
 use Rattle.ec_check.proofs.RangedExpressions.{expression_ranged, RangedParts}
@@ -24,16 +24,16 @@ use Rattle.ec_check.proofs.RangedStatements as statements
 use Rattle.ec_check.proofs.Rolled.{expression_mapped, link_mapped, member_mapped, statement_mapped, body_mapped}
 use Rattle.ec_check.proofs.Rolled.{part_rolled, link_rolled, member_rolled, statement_rolled, addend_rolled, arm_rolled}
 use Rattle.ec_check.proofs.Rolled.{block_rolled, body_rolled}
-use Rattle.ec_check.proofs.Rolled.{factor_rolled, object_rolled, operation_rolled, process_rolled, block_mapped}
+use Rattle.ec_check.proofs.Rolled.{factor_rolled, object_rolled, operation_rolled, section_rolled, block_mapped}
 use Rattle.ec_check.specs.Tree.{link_step, member_step, body_step}
 use Rattle.ec_check.specs.Tree.{part_of, link_of, member_of, statement_of, addend_of, arm_of, factor_of}
 use Rattle.ec_check.proofs.RangedHeld.{IsRangedPart, IsRangedLink, IsRangedMember, IsRangedStatement, IsRangedAddend, IsRangedArm}
 use Rattle.ec_check.proofs.RangedHeld.{IsRangedBlock, IsRangedBody, IsRangedFactor, IsRangedObject, IsRangedOperation, IsRangedProcess}
 use Rattle.ec_check.proofs.RangedHeld.{ranged}
 use Rattle.ec_ast.proofs.Claims.{Passes, Held, ExpressionWith, LinkWith, MemberWith, StatementWith, AddendWith, ArmWith}
-use Rattle.ec_ast.proofs.Claims.{BlockWith, BodyWith, FactorWith, ObjectWith, OperationWith, ProcessWith, bare_expression}
+use Rattle.ec_ast.proofs.Claims.{BlockWith, BodyWith, FactorWith, ObjectWith, OperationWith, SectionWith, bare_expression}
 use Rattle.ec_ast.proofs.Claims.{bare_link, bare_member, bare_statement, bare_addend, bare_arm, bare_block, bare_body, bare_factor}
-use Rattle.ec_ast.proofs.Claims.{bare_object, bare_operation, bare_process, expression_holds, statement_holds, block_holds}
+use Rattle.ec_ast.proofs.Claims.{bare_object, bare_operation, bare_section, expression_holds, statement_holds, block_holds}
 use Rattle.ec_ast.proofs.Claims.{body_holds}
 
 -- ---- lists of parts
@@ -54,7 +54,7 @@ parts_are (Expression-F.Expression::Variable name) = tt
 parts_are (Expression-F.Parenthesised x at) = x.1
 parts_are (Expression-F.Constructor o) = o.1
 parts_are (Expression-F.NodeAt x at word) = x.1
-parts_are (Expression-F.NodeCount at) = tt
+parts_are (Expression-F.NodeCount at word) = tt
 parts_are (Expression-F.NewVector of x at word) = x.1
 parts_are (Expression-F.Postfix x links) = (x.1, each_held link_of RangedLink links)
 parts_are (Expression-F.Negative x at) = x.1
@@ -138,8 +138,8 @@ member_at y = subst RangedMember (sym (member_rolled (bare_member ranged y))) (m
 operation_at : (y : OperationWith ranged) → IsRangedOperation (roll-Operation (bare_operation ranged y))
 operation_at y = subst RangedOperation (sym (operation_rolled (bare_operation ranged y))) y.block.1
 
-process_at : (y : ProcessWith ranged) → IsRangedProcess (roll-ProcessSection (bare_process ranged y))
-process_at y = subst RangedProcess (sym (process_rolled (bare_process ranged y))) y.block.1
+process_at : (y : SectionWith ranged) → IsRangedProcess (roll-Section (bare_section ranged y))
+process_at y = subst RangedProcess (sym (section_rolled (bare_section ranged y))) y.block.1
 
 abbrev body_layer : List (Held IsRangedMember) → Option (Held IsRangedBlock) → Option (Held IsRangedProcess) → BodyWith ranged
 body_layer ms i p = record { members = ms; initially = i; process = p }
@@ -172,7 +172,7 @@ passes = record {
   factor = factor_at;
   object = object_at;
   operation = operation_at;
-  process = process_at;
+  section = process_at;
 }
 
 pub ranged_part : (x : Expression) → IsRangedPart x

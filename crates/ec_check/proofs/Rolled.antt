@@ -11,20 +11,20 @@ use Rattle.ec_ast.specs.declared.Body.{roll-Body}
 use Rattle.ec_ast.specs.declared.Factor.{roll-Factor}
 use Rattle.ec_ast.specs.declared.ObjectConstructor.{roll-ObjectConstructor}
 use Rattle.ec_ast.specs.declared.Operation.{roll-Operation}
-use Rattle.ec_ast.specs.declared.ProcessSection.{roll-ProcessSection}
+use Rattle.ec_ast.specs.declared.Section.{roll-Section}
 use Rattle.ec_check.specs.Parts.{AnExpression, ALink, AMember, AStatement, AnAddend, AnArm, ABlock, ABody, AFactor, AnObject}
-use Rattle.ec_check.specs.Parts.{AnOperation, AProcess}
+use Rattle.ec_check.specs.Parts.{AnOperation, ASection}
 use Rattle.ec_check.specs.Tree.{expression_step, link_step, member_step, statement_step, addend_step, arm_step, block_step}
-use Rattle.ec_check.specs.Tree.{body_step, factor_step, object_step, operation_step, process_step, steps, parts}
+use Rattle.ec_check.specs.Tree.{body_step, factor_step, object_step, operation_step, section_step, steps, parts}
 use Rattle.ec_check.specs.Tree.{part_of, link_of, member_of, statement_of, addend_of, arm_of, block_of, body_of, factor_of}
-use Rattle.ec_check.specs.Tree.{object_of, operation_of, process_of}
+use Rattle.ec_check.specs.Tree.{object_of, operation_of, section_of}
 pub use Rattle.ec_ast.specs.Kinds.{ExpressionLayer, LinkLayer, MemberLayer, StatementLayer, AddendLayer, ArmLayer, BlockLayer}
-pub use Rattle.ec_ast.specs.Kinds.{BodyLayer, FactorLayer, ObjectLayer, OperationLayer, ProcessLayer}
+pub use Rattle.ec_ast.specs.Kinds.{BodyLayer, FactorLayer, ObjectLayer, OperationLayer, SectionLayer}
 use Rattle.ec_ast.specs.Layers as layers
 use Rattle.ec_ast.proofs.Rolled.{Rolled, folds_are_rolled}
 
 pub rolled : Rolled steps parts
-unfolding part_of link_of member_of statement_of addend_of arm_of block_of body_of factor_of object_of operation_of process_of
+unfolding part_of link_of member_of statement_of addend_of arm_of block_of body_of factor_of object_of operation_of section_of
 rolled = folds_are_rolled steps
 
 -- ---- a layer with its parts made
@@ -62,8 +62,8 @@ object_mapped = layers.object_mapped parts
 abbrev pub operation_mapped : OperationLayer → AnOperation
 operation_mapped = layers.operation_mapped parts
 
-abbrev pub process_mapped : ProcessLayer → AProcess
-process_mapped = layers.process_mapped parts
+abbrev pub section_mapped : SectionLayer → ASection
+section_mapped = layers.section_mapped parts
 
 -- ---- the part that is made of it
 
@@ -100,5 +100,5 @@ object_rolled = rolled.object
 pub operation_rolled : (x : OperationLayer) → operation_of (roll-Operation x) ≡ operation_step (operation_mapped x)
 operation_rolled = rolled.operation
 
-pub process_rolled : (x : ProcessLayer) → process_of (roll-ProcessSection x) ≡ process_step (process_mapped x)
-process_rolled = rolled.process
+pub section_rolled : (x : SectionLayer) → section_of (roll-Section x) ≡ section_step (section_mapped x)
+section_rolled = rolled.process

@@ -39,7 +39,7 @@ SoundParts (Expression-F.Expression::Variable name) = Unit {0}
 SoundParts (Expression-F.Parenthesised x at) = SoundPart x
 SoundParts (Expression-F.Constructor o) = SoundConstructor o
 SoundParts (Expression-F.NodeAt x at word) = SoundPart x
-SoundParts (Expression-F.NodeCount at) = Unit {0}
+SoundParts (Expression-F.NodeCount at word) = Unit {0}
 SoundParts (Expression-F.NewVector of x at word) = SoundPart x
 SoundParts (Expression-F.Postfix x links) = SoundPart x × Every SoundLink links
 SoundParts (Expression-F.Negative x at) = SoundPart x
@@ -69,7 +69,7 @@ negated_form scope (Literal of) = tt
 negated_form scope form = tt
 
 chain_form : (scope : Scope) (form : Form) (links : List judged.LinkPart) → SoundForm scope (form_of_chain form links)
-chain_form scope (NameAlone name) (judged.call word arguments ∷ []) =
+chain_form scope (NameAlone name) (judged.call word arguments marks ∷ []) =
     either (SoundForm scope) (is_word word (codes "create")) (Created name) Other tt tt
 chain_form scope form links = tt
 
@@ -85,7 +85,7 @@ form_is_sound (Expression-F.Parenthesised x at) h needed scope e =
     form_within scope x.part.form (h.form true scope (none_left _ _ (none_left _ _ e)))
 form_is_sound (Expression-F.Constructor o) h needed scope e = tt
 form_is_sound (Expression-F.NodeAt x at word) h needed scope e = tt
-form_is_sound (Expression-F.NodeCount at) h needed scope e = tt
+form_is_sound (Expression-F.NodeCount at word) h needed scope e = tt
 form_is_sound (Expression-F.NewVector of x at word) h needed scope e =
     type_is_known scope.table of (none_left _ _ (none_right _ _ e))
 form_is_sound (Expression-F.Postfix x links) h needed scope e =
@@ -117,7 +117,7 @@ types_are_known (Expression-F.Expression::Variable name) h needed scope s e = tt
 types_are_known (Expression-F.Parenthesised x at) h needed scope s e = one_within scope x s h (none_left _ _ e)
 types_are_known (Expression-F.Constructor o) h needed scope s e = holder_types scope o.holder s h e
 types_are_known (Expression-F.NodeAt x at word) h needed scope s e = one_within scope x s h (none_left _ _ e)
-types_are_known (Expression-F.NodeCount at) h needed scope s e = tt
+types_are_known (Expression-F.NodeCount at word) h needed scope s e = tt
 types_are_known (Expression-F.NewVector of x at word) h needed scope s e = one_within scope x s h (none_left _ _ e)
 types_are_known (Expression-F.Postfix x links) h needed scope s e = postfix_within needed scope x links s h.0 h.1 e
 types_are_known (Expression-F.Negative x at) h needed scope s e = one_within scope x s h (none_left _ _ e)
@@ -160,7 +160,7 @@ value_has_type (Expression-F.Expression::Variable name) h scope s e =
 value_has_type (Expression-F.Parenthesised x at) h scope s e = h.value scope s (none_left _ _ (none_left _ _ e))
 value_has_type (Expression-F.Constructor o) h scope s e = refl
 value_has_type (Expression-F.NodeAt x at word) h scope s e = refl
-value_has_type (Expression-F.NodeCount at) h scope s e = refl
+value_has_type (Expression-F.NodeCount at word) h scope s e = refl
 value_has_type (Expression-F.NewVector of x at word) h scope s e =
     written_is_known (vector_of (written_in scope of))
     (vector_is_written (written_in scope of) (type_is_known scope.table of (none_left _ _ (none_right _ _ e))))

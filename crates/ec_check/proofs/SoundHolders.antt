@@ -7,8 +7,8 @@ use Rattle.ec_check.proofs.SoundForms.{same_class_in_body, same_constant, consta
 use Rattle.ec_check.proofs.SoundParts.{SoundPiece, SoundMember, SoundProcess, SoundHolder, part_types}
 use Rattle.ec_check.proofs.SoundScopes.{SoundScope, SoundObject, SoundOperations, KnownResult, TypedEntry, sound_within}
 use Rattle.ec_check.proofs.SoundScopes.{sound_declaring, sound_in_a_process}
-use Rattle.ec_check.specs.Parts.{Piece, ProcessPart, MemberPart, variable, constant, condition, operation, Holder}
-use Rattle.ec_check.specs.Parts.{member_judged, operation_judged, process_judged, holder_judged}
+use Rattle.ec_check.specs.Parts.{Piece, SectionPart, MemberPart, variable, constant, condition, operation, Holder}
+use Rattle.ec_check.specs.Parts.{member_judged, operation_judged, section_judged, holder_judged}
 use Rattle.ec_check.specs.Typing.{block_within, process_within, member_within, holder_within}
 use Rattle.ec_types.specs.Names.{Text, has_name}
 use Rattle.ec_rules.specs.Judging.{member_finished, members_finished, finished_if, process_finished, faults_in_holder}
@@ -163,8 +163,8 @@ block_types : (scope : Scope) (b : Option Piece) → SoundScope scope → Where 
 block_types scope None s h e = tt
 block_types scope (Some b) s h e = h scope s e
 
-process_types : (scope : Scope) (p : Option ProcessPart) → SoundScope scope → Where SoundProcess p →
-    (process_finished scope (option_map process_judged p)).faults ≡ [] → Every HasType (process_within scope p)
+process_types : (scope : Scope) (p : Option SectionPart) → SoundScope scope → Where SoundProcess p →
+    (process_finished scope (option_map section_judged p)).faults ≡ [] → Every HasType (process_within scope p)
 process_types scope None s h e = tt
 process_types scope (Some p) s h e = h (in_a_process scope) (sound_in_a_process scope s) (none_left _ _ e)
 

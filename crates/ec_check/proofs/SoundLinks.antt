@@ -81,13 +81,13 @@ self_callee_is_known scope (Some o) name s h =
 -- ---- what stands before a call or an index
 
 abbrev pub SoundBefore : Scope → Receiver → LinkPart → Type 0
-SoundBefore scope (Creation class) (call name arguments) = is_some (class_named scope class.text) ≡ true
+SoundBefore scope (Creation class) (call name arguments marks) = is_some (class_named scope class.text) ≡ true
 SoundBefore scope (Creation class) (index number at) = ⊥
 SoundBefore scope Own l = is_some (innermost scope) ≡ true
 SoundBefore scope (Typed of) l = HasType of
 
 callee_is_known : (scope : Scope) (before : Receiver) (name : Name) (arguments : List Part) → SoundScope scope →
-    SoundBefore scope before (call name arguments) → KnownCallee (callee scope before name)
+    SoundBefore scope before (call name arguments marks) → KnownCallee (callee scope before name)
 callee_is_known scope (Creation class) name arguments s h = class_callee_is_known (class_named scope class.text) h
 callee_is_known scope Own name arguments s h = self_callee_is_known scope (innermost scope) name s h
 callee_is_known scope (Typed None) name arguments s h = not_both h
@@ -113,7 +113,7 @@ indexed_has_type (Some of) h f = element_has_type of f
 -- Where the value of a call is needed, the call without a fault has one.
 pub link_has_type : (scope : Scope) (head : Span) (before : Receiver) (l : LinkPart) → SoundScope scope →
     SoundBefore scope before l → link_faults scope head true before l ≡ [] → HasType (link_type scope before l)
-link_has_type scope head before (call name arguments) s h e =
+link_has_type scope head before (call name arguments marks) s h e =
     result_has_type (callee scope before name) name (values_in scope arguments) (callee_is_known scope before name arguments s h)
     (none_left _ _ e) (none_left _ _ (none_right _ _ e))
 link_has_type scope head before (index number at) s h e =
@@ -138,7 +138,7 @@ own_receiver scope (l ∷ ls) h = h
 creation_receiver : (scope : Scope) (name : Name) (links : List LinkPart) → is_creation links ≡ true →
     is_some (class_named scope name.text) ≡ true → SoundReceiver scope (Creation name) links
 creation_receiver scope name [] c h = not_both c
-creation_receiver scope name (call word arguments ∷ links) c h = h
+creation_receiver scope name (call word arguments marks ∷ links) c h = h
 creation_receiver scope name (index number at ∷ links) c h = not_both c
 
 receiver_of : (scope : Scope) (head : Part) (form : Form) (of : Option StaticType) (links : List LinkPart) →

@@ -6,7 +6,7 @@ use Rattle.ec_check.proofs.KnownTypes.{HasType, clean}
 use Rattle.ec_check.proofs.SoundForms.{SoundForm}
 use Rattle.ec_check.proofs.SoundScopes.{SoundScope, TypedEntry}
 use Rattle.ec_check.proofs.SoundLinks.{SoundReceiver, link_has_type, receiver_is_sound}
-use Rattle.ec_check.specs.Parts.{Part, Piece, StatementPart, LinkPart, call, index, FactorPart, AddendPart, ArmPart, ProcessPart}
+use Rattle.ec_check.specs.Parts.{Part, Piece, StatementPart, LinkPart, call, index, FactorPart, AddendPart, ArmPart, SectionPart}
 use Rattle.ec_check.specs.Parts.{OperationPart, MemberPart, variable, constant, condition, operation, BodyPart, Holder, ObjectPart}
 use Rattle.ec_check.specs.Parts.{link_judged}
 use Rattle.ec_check.specs.Resolving.{link_parts, parts_of_links, chain_parts}
@@ -36,7 +36,7 @@ pub record SoundStatement (x : StatementPart) : Type 0 where
       Every TypedEntry (x.part.declares scope)
 
 abbrev pub SoundLink : LinkPart → Type 0
-SoundLink (call name arguments) = Every SoundPart arguments
+SoundLink (call name arguments marks) = Every SoundPart arguments
 SoundLink (index number at) = SoundPart number
 
 abbrev pub SoundFactor : FactorPart → Type 0
@@ -48,7 +48,7 @@ SoundAddend a = SoundPart a.value
 abbrev pub SoundArm : ArmPart → Type 0
 SoundArm a = SoundPart a.condition × SoundPiece a.block
 
-abbrev pub SoundProcess : ProcessPart → Type 0
+abbrev pub SoundProcess : SectionPart → Type 0
 SoundProcess p = SoundPiece p.block
 
 abbrev pub SoundOperation : OperationPart → Type 0
@@ -103,7 +103,7 @@ values_types f v w same scope (x ∷ xs) s h e =
 
 link_known : (scope : Scope) (l : LinkPart) → SoundScope scope → SoundLink l →
     each (faults_in scope) (calls.link_parts (link_judged l)) ≡ [] → Every (TypesKnown scope) (link_parts l)
-link_known scope (call name arguments) s h e = parts_known scope arguments s h e
+link_known scope (call name arguments marks) s h e = parts_known scope arguments s h e
 link_known scope (index number at) s h e = parts_known scope (number ∷ []) s (h, tt) e
 
 needed_too : (a b : Bool) → a ≡ true → a || b ≡ true

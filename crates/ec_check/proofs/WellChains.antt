@@ -44,9 +44,9 @@ use Rattle.ec_types.specs.Scopes.{class_named, innermost, own_operation_of}
 
 call_of_type : (site : Site) (env : Env) (x : TypedValue) (of : Option StaticType) (name : Name) (arguments : List Part)
     (needed : Bool) → Suits site env → HasType of → Every (Valued site env) arguments → Is x of →
-    link_faults env.scope name.at needed (Typed of) (link_judged (call name arguments)) ≡ [] →
-    Is (typed_link site (link_core env (Typed of) (call name arguments)) x)
-    (link_type env.scope (Typed of) (link_judged (call name arguments)))
+    link_faults env.scope name.at needed (Typed of) (link_judged (call name arguments marks)) ≡ [] →
+    Is (typed_link site (link_core env (Typed of) (call name arguments marks)) x)
+    (link_type env.scope (Typed of) (link_judged (call name arguments marks)))
 call_of_type site env x None name arguments needed s t h i e = not_both t
 call_of_type site env x (Some of) name arguments needed s t h i e =
     subst
@@ -65,7 +65,7 @@ link_well : (site : Site) (env : Env) (head : Span) (x : TypedValue) (of : Optio
     Suits site env → HasType of → Every (Valued site env) (link_parts l) → Is x of →
     link_faults env.scope head needed (Typed of) (link_judged l) ≡ [] →
     Is (typed_link site (link_core env (Typed of) l) x) (link_type env.scope (Typed of) (link_judged l))
-link_well site env head x of (call name arguments) needed s t h i e = call_of_type site env x of name arguments needed s t h i e
+link_well site env head x of (call name arguments marks) needed s t h i e = call_of_type site env x of name arguments needed s t h i e
 link_well site env head x of (index number at) needed s t h i e =
     index_well site x of (number.core env) (value_in env.scope number.part) at.from i t (test_holds _ _ _ (none_left _ _ e)) h.0
     (none_right _ _ e)
@@ -123,7 +123,7 @@ links_well (l ∷ ls) site env head needed of x s g k h i e =
     (next_faults env.scope head needed (Typed of) (link_judged l) (map link_judged ls) e))
   where
     before_known : (l : LinkPart) → HasType of → SoundBefore env.scope (Typed of) (link_judged l)
-    before_known (call name arguments) k = k
+    before_known (call name arguments marks) k = k
     before_known (index number at) k = k
 
 -- behind the first link
@@ -166,7 +166,7 @@ own_link_well : (site : Site) (env : Env) (head : Span) (l : LinkPart) (needed :
     is_some (innermost env.scope) ≡ true → Every (Valued site env) (link_parts l) →
     link_faults env.scope head needed Own (link_judged l) ≡ [] →
     Is (typed_link site (link_core env Own l) (typed site core.Itself)) (link_type env.scope Own (link_judged l))
-own_link_well site env head (call name arguments) needed s there h e =
+own_link_well site env head (call name arguments marks) needed s there h e =
     self_call site env.scope (typed site core.Itself) (innermost env.scope) name (cores_of env arguments)
     (values_in env.scope (map (λ p. p.part) arguments)) there s.own (itself_well site env s there).is_well (is_itself site)
     (values_of arguments site env h) (own_is_named (innermost env.scope) name)
@@ -191,9 +191,9 @@ own_link_well site env head (index number at) needed s there h e =
 
 creation_call : (site : Site) (env : Env) (name word : Name) (arguments : List Part) (needed : Bool) → Suits site env →
     is_some (class_named env.scope name.text) ≡ true → Every (Valued site env) arguments →
-    link_faults env.scope name.at needed (Creation name) (link_judged (call word arguments)) ≡ [] →
+    link_faults env.scope name.at needed (Creation name) (link_judged (call word arguments marks)) ≡ [] →
     Is (typed site (core.Create (number_of_class (class_named env.scope name.text)) (cores_of env arguments)))
-    (link_type env.scope (Creation name) (link_judged (call word arguments)))
+    (link_type env.scope (Creation name) (link_judged (call word arguments marks)))
 creation_call site env name word arguments needed s there h e =
     creation_well site (class_named env.scope name.text) (cores_of env arguments) (values_in env.scope (map (λ p. p.part) arguments)) there
     (class_stands site env name.text s) (values_of arguments site env h)
@@ -225,7 +225,7 @@ head_of env head Other None h = refl
 
 every_link_part : (ls : List LinkPart) → Every WellLink ls → Every WellPart (parts_of_links ls)
 every_link_part [] h = tt
-every_link_part (call name arguments ∷ ls) h =
+every_link_part (call name arguments marks ∷ ls) h =
     every_joined WellPart arguments (parts_of_links ls) h.0 (every_link_part ls h.1)
 every_link_part (index number at ∷ ls) h = (h.0, every_link_part ls h.1)
 
@@ -263,28 +263,28 @@ own_chain (l ∷ ls) site env needed head s g there is h e =
     (none_right _ _ (none_left _ _ e))) e))
   where
     before : (l : LinkPart) → SoundBefore env.scope Own (link_judged l)
-    before (call name arguments) = there
+    before (call name arguments marks) = there
     before (index number at) = there
 
 created_chain : (ls : List LinkPart) (site : Site) (env : Env) (needed : Bool) (name word : Name) (arguments : List Part) (head : Part) →
     Suits site env → SoundScope env.scope → is_some (class_named env.scope name.text) ≡ true →
     Every (Valued site env) (arguments ++ parts_of_links ls) →
-    faults_of_links env.scope head.part.at needed (Creation name) true (map link_judged (call word arguments ∷ ls)) ≡ [] →
-    Is (typed site (chain_core env (Creation name) head (call word arguments ∷ ls)))
-    (type_of_links env.scope head.part.at needed (Creation name) true (map link_judged (call word arguments ∷ ls)))
+    faults_of_links env.scope head.part.at needed (Creation name) true (map link_judged (call word arguments marks ∷ ls)) ≡ [] →
+    Is (typed site (chain_core env (Creation name) head (call word arguments marks ∷ ls)))
+    (type_of_links env.scope head.part.at needed (Creation name) true (map link_judged (call word arguments marks ∷ ls)))
 created_chain ls site env needed name word arguments head s g there h e =
     subst
     (λ given.
     Is
     (typed site
     (chained (core.Create (number_of_class (class_named env.scope name.text)) given)
-    (links_core env (Typed (link_type env.scope (Creation name) (link_judged (call word arguments)))) ls)))
-    (type_of_links env.scope head.part.at needed (Creation name) true (map link_judged (call word arguments ∷ ls))))
+    (links_core env (Typed (link_type env.scope (Creation name) (link_judged (call word arguments marks)))) ls)))
+    (type_of_links env.scope head.part.at needed (Creation name) true (map link_judged (call word arguments marks ∷ ls))))
     (sym (creation_arguments env name word arguments))
     (same_is
     (chained_typed site (core.Create (number_of_class (class_named env.scope name.text)) (cores_of env arguments))
-    (links_core env (Typed (link_type env.scope (Creation name) (link_judged (call word arguments)))) ls))
-    (rest_well site env head.part.at needed (Creation name) (call word arguments) ls
+    (links_core env (Typed (link_type env.scope (Creation name) (link_judged (call word arguments marks)))) ls))
+    (rest_well site env head.part.at needed (Creation name) (call word arguments marks) ls
     (typed site (core.Create (number_of_class (class_named env.scope name.text)) (cores_of env arguments))) s g there
     (every_right (Valued site env) arguments (parts_of_links ls) h)
     (creation_call site env name word arguments _ s there (every_left (Valued site env) arguments (parts_of_links ls) h)
@@ -296,7 +296,7 @@ own_there scope [] h = object_there (innermost scope) h
     object_there : (o : Option Object) → HasType (type_of_object o) → is_some o ≡ true
     object_there None h = not_both h
     object_there (Some o) h = refl
-own_there scope (call name arguments ∷ ls) h = h
+own_there scope (call name arguments marks ∷ ls) h = h
 own_there scope (index number at ∷ ls) h = h
 
 -- a chain with its receiver
@@ -312,8 +312,8 @@ chain_with : (site : Site) (env : Env) (needed : Bool) (before : Receiver) (head
     × AreWell site (all_made env.scope (chain_parts before head ls)).operations
 chain_with site env needed (Creation name) head [] c b i h k r e = absurd c
 chain_with site env needed (Creation name) head (index number at ∷ ls) c b i h k r e = absurd c
-chain_with site env needed (Creation name) head (call word arguments ∷ ls) c b i h k r e =
-    let parts : Every WellPart (arguments ++ parts_of_links ls) = every_link_part (call word arguments ∷ ls) k in (
+chain_with site env needed (Creation name) head (call word arguments marks ∷ ls) c b i h k r e =
+    let parts : Every WellPart (arguments ++ parts_of_links ls) = every_link_part (call word arguments marks ∷ ls) k in (
       created_chain ls site env needed name word arguments head r.suits r.sound c.1
           (parts_valued (arguments ++ parts_of_links ls) site env parts r) e,
       parts_made (arguments ++ parts_of_links ls) site env parts r,

@@ -62,7 +62,7 @@ WellParts (Expression-F.Expression::Variable name) = Unit {0}
 WellParts (Expression-F.Parenthesised x at) = WellPart x
 WellParts (Expression-F.Constructor o) = WellConstructor o
 WellParts (Expression-F.NodeAt x at word) = WellPart x
-WellParts (Expression-F.NodeCount at) = Unit {0}
+WellParts (Expression-F.NodeCount at word) = Unit {0}
 WellParts (Expression-F.NewVector of x at word) = WellPart x
 WellParts (Expression-F.Postfix x links) = WellPart x × Every WellLink links
 WellParts (Expression-F.Negative x at) = WellPart x
@@ -236,7 +236,7 @@ layer_well (Expression-F.NodeAt x at word) h needed site env r =
     (is_if _ (Some node)
     (is_wanted wanted.Integer (typed site (x.core env)) (value_in env.scope x.part) (one_value site env x _ h r)
     (none_left _ _ (none_right _ _ r.faultless)))))
-layer_well (Expression-F.NodeCount at) h needed site env r =
+layer_well (Expression-F.NodeCount at word) h needed site env r =
     alone (same_is (expression_has site e.NodeCount Core-F.NodeCount e.rolls-NodeCount) (is_if true (Some integer) refl))
 layer_well (Expression-F.NewVector of x at word) h needed site env r =
     let w : is_written (written_in env.scope of) ≡ true =
@@ -380,7 +380,7 @@ not_negated (Literal of) e = cc
 not_negated form e = cc
 
 not_chain : (form : Form) (links : List judged.LinkPart) → form_of_chain form links ≡ Itself → ⊥
-not_chain (NameAlone name) (judged.call word arguments ∷ []) e =
+not_chain (NameAlone name) (judged.call word arguments marks ∷ []) e =
     by (is_word word (codes "create")) e
   where
     by : (b : Bool) → (if b then Created name else Other) ≡ Itself → ⊥
@@ -399,7 +399,7 @@ layer_itself (Expression-F.Expression::Variable name) h f env = cc
 layer_itself (Expression-F.Parenthesised x at) h f env = h.itself (form_within x.part.form f) env
 layer_itself (Expression-F.Constructor o) h f env = cc
 layer_itself (Expression-F.NodeAt x at word) h f env = cc
-layer_itself (Expression-F.NodeCount at) h f env = cc
+layer_itself (Expression-F.NodeCount at word) h f env = cc
 layer_itself (Expression-F.NewVector of x at word) h f env = cc
 layer_itself (Expression-F.Postfix x links) h f env = absurd (not_chain x.part.form (map link_judged links) f)
 layer_itself (Expression-F.Negative x at) h f env = absurd (not_negated x.part.form f)
@@ -438,7 +438,7 @@ layer_goes (Expression-F.Constructor o) h site env r = λ there.
     (well_is (layer_well (Expression-F.Constructor o) h true site env r))
     (class_conforms site.table site.core env.scope.globals (class_core env.scope o.holder) r.suits.globals r.classes.0)
 layer_goes (Expression-F.NodeAt x at word) h site env r = λ there. not_both there
-layer_goes (Expression-F.NodeCount at) h site env r = λ there. not_both there
+layer_goes (Expression-F.NodeCount at word) h site env r = λ there. not_both there
 layer_goes (Expression-F.NewVector of x at word) h site env r = λ there.
     let w : is_written (written_in env.scope of) ≡ true =
     type_is_known env.scope.table of (none_left _ _ (none_right _ _ r.faultless)) in

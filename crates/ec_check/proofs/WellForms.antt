@@ -94,16 +94,16 @@ class_goes table core globals (Some c) x g s e h =
 
 created_goes : (site : Site) (env : Env) (at : Span) (name word : Name) (arguments : List judged.Part) (of : Option StaticType)
     (x : TypedValue) (before : Receiver) → Suits site env → before ≡ Creation name →
-    faults_of_links env.scope at true before true (judged.call word arguments ∷ []) ≡ [] →
-    Is x (type_of_links env.scope at true before true (judged.call word arguments ∷ [])) →
+    faults_of_links env.scope at true before true (judged.call word arguments marks ∷ []) ≡ [] →
+    Is x (type_of_links env.scope at true before true (judged.call word arguments marks ∷ [])) →
     Goes site.table env.scope (Created name) x
 created_goes site env at name word arguments of x before s is e h = λ there.
-    let f : faults_of_links env.scope at true (Creation name) true (judged.call word arguments ∷ []) ≡ [] =
-    subst (λ before. faults_of_links env.scope at true before true (judged.call word arguments ∷ []) ≡ []) is e in
+    let f : faults_of_links env.scope at true (Creation name) true (judged.call word arguments marks ∷ []) ≡ [] =
+    subst (λ before. faults_of_links env.scope at true before true (judged.call word arguments marks ∷ []) ≡ []) is e in
     class_goes site.table site.core env.scope.globals (class_named env.scope name.text) x s.globals
     (class_stands site env name.text s) there
-    (subst (Is x) (next_type env.scope at true (Creation name) (judged.call word arguments) [] f)
-    (subst (λ before. Is x (type_of_links env.scope at true before true (judged.call word arguments ∷ []))) is h))
+    (subst (Is x) (next_type env.scope at true (Creation name) (judged.call word arguments marks) [] f)
+    (subst (λ before. Is x (type_of_links env.scope at true before true (judged.call word arguments marks ∷ []))) is h))
 
 abbrev with_form : Scope → judged.Part → Form → List judged.LinkPart → Receiver
 with_form scope head form links = receiver_if (class_created scope form links) form (judged.value_in scope head).of
@@ -122,12 +122,12 @@ goes_chain site env head Itself links x s e h = λ there. not_both there
 goes_chain site env head Other links x s e h = λ there. not_both there
 goes_chain site env head (NameAlone name) [] x s e h = λ there. not_both there
 goes_chain site env head (NameAlone name) (judged.index number at ∷ links) x s e h = λ there. not_both there
-goes_chain site env head (NameAlone name) (judged.call word arguments ∷ l ∷ links) x s e h = λ there. not_both there
-goes_chain site env head (NameAlone name) (judged.call word arguments ∷ []) x s e h =
+goes_chain site env head (NameAlone name) (judged.call word arguments marks ∷ l ∷ links) x s e h = λ there. not_both there
+goes_chain site env head (NameAlone name) (judged.call word arguments marks ∷ []) x s e h =
     by (is_word word (codes "create")) refl
   where
     created : is_word word (codes "create") ≡ true → is_some (class_named env.scope name.text) ≡ true →
-        with_form env.scope head (NameAlone name) (judged.call word arguments ∷ []) ≡ Creation name
+        with_form env.scope head (NameAlone name) (judged.call word arguments marks ∷ []) ≡ Creation name
     created a b =
         ap (λ t. receiver_if (if t then Some name else None) (NameAlone name) (judged.value_in env.scope head).of)
         (both_hold (is_word word (codes "create")) (is_some (class_named env.scope name.text)) a b)
@@ -135,6 +135,6 @@ goes_chain site env head (NameAlone name) (judged.call word arguments ∷ []) x 
     by : (b : Bool) → is_word word (codes "create") ≡ b → Goes site.table env.scope (if b then Created name else Other) x
     by true is = λ there.
         created_goes site env head.at name word arguments (judged.value_in env.scope head).of x
-        (with_form env.scope head (NameAlone name) (judged.call word arguments ∷ [])) s
+        (with_form env.scope head (NameAlone name) (judged.call word arguments marks ∷ [])) s
         (created is (class_there (class_named env.scope name.text) there)) e h there
     by false is = λ there. not_both there

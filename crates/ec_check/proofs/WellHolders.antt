@@ -14,8 +14,8 @@ use Rattle.ec_check.proofs.SuitingBodies.{from_last, from_all}
 use Rattle.ec_check.proofs.TypedRolled.{block_rolled}
 use Rattle.ec_check.proofs.WellParts.{Ready, WellMember, WellPiece, WellProcess, WellHolder, GlobalsSuit, AreWell, AreFrom}
 use Rattle.ec_check.proofs.WellReady.{first_reach, second_reach, first_ready, second_ready, ready_within}
-use Rattle.ec_check.specs.Parts.{Piece, ProcessPart, OperationPart, MemberPart, variable, constant, condition, operation, Holder, Made}
-use Rattle.ec_check.specs.Parts.{member_judged, operation_judged, process_judged, holder_judged}
+use Rattle.ec_check.specs.Parts.{Piece, SectionPart, OperationPart, MemberPart, variable, constant, condition, operation, Holder, Made}
+use Rattle.ec_check.specs.Parts.{member_judged, operation_judged, section_judged, holder_judged}
 use Rattle.ec_check.specs.Places.{Env}
 use Rattle.ec_check.specs.Resolving.{env_of_operation, operation_core, heading_types, member_made, members_made, field_stored}
 use Rattle.ec_check.specs.Resolving.{initially_core}
@@ -120,10 +120,10 @@ module _ (table : Table) (core : Core) (c : Class) (there : Contains core.classe
       h.well (site_in table core c made) env r refl v in
       (sym (statements_of (site_in table core c made) (b.core env)) ∙ done.0, done.1)
 
-  process_well : (env : Env) (name : Name) (p : Option ProcessPart) → BodySuits table core c env → SoundScope env.scope →
+  process_well : (env : Env) (name : Name) (p : Option SectionPart) → BodySuits table core c env → SoundScope env.scope →
       Where WellProcess p →
-      Every (IsReached env.captures) (uses_outside (process_finished env.scope (option_map process_judged p)).uses) →
-      (process_finished env.scope (option_map process_judged p)).faults ≡ [] →
+      Every (IsReached env.captures) (uses_outside (process_finished env.scope (option_map section_judged p)).uses) →
+      (process_finished env.scope (option_map section_judged p)).faults ≡ [] →
       Every (Contains core.classes) (process_made c.number env name p).classes →
       Every (Contains core.operations) (process_made c.number env name p).operations →
       AllWell (process_made c.number env name p).operations
@@ -159,7 +159,7 @@ abbrev initial_uses : Scope → Holder → List Use
 initial_uses scope h = (finished_if (scope_of scope (holder_judged h)) (option_map (λ p. p.piece) h.body.initially)).uses
 
 abbrev process_uses : Scope → Holder → List Use
-process_uses scope h = (process_finished (scope_of scope (holder_judged h)) (option_map process_judged h.body.process)).uses
+process_uses scope h = (process_finished (scope_of scope (holder_judged h)) (option_map section_judged h.body.process)).uses
 
 abbrev members_in : Scope → Holder → Made
 members_in scope h = members_made (class_core scope h).number (env_of_body scope h) h.body.members
@@ -182,7 +182,7 @@ record BodyReady (table : Table) (core : Core) (scope : Scope) (h : Holder) : Ty
   initially : Ready (first_site table core scope h) (env_of_body scope h) (initial_uses scope h)
       (finished_if (scope_of scope (holder_judged h)) (option_map (λ p. p.piece) h.body.initially)).faults (initially_in scope h)
   reach : Every (IsReached (captures_of scope h)) (uses_outside (process_uses scope h))
-  faultless : (process_finished (scope_of scope (holder_judged h)) (option_map process_judged h.body.process)).faults ≡ []
+  faultless : (process_finished (scope_of scope (holder_judged h)) (option_map section_judged h.body.process)).faults ≡ []
   classes : Every (Contains core.classes) (process_in scope h).classes
   operations : Every (Contains core.operations) (process_in scope h).operations
 

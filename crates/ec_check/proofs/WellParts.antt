@@ -6,7 +6,7 @@ use Rattle.ec_check.proofs.Every.{Every, Where}
 use Rattle.ec_check.proofs.RangedParts.{RangedPart, RangedPiece, RangedStatement, RangedBody}
 use Rattle.ec_check.proofs.SoundParts.{SoundPart, SoundPiece, SoundStatement, SoundBody}
 use Rattle.ec_check.proofs.SoundScopes.{SoundScope}
-use Rattle.ec_check.specs.Parts.{Made, Part, Piece, StatementPart, LinkPart, call, index, FactorPart, AddendPart, ArmPart, ProcessPart}
+use Rattle.ec_check.specs.Parts.{Made, Part, Piece, StatementPart, LinkPart, call, index, FactorPart, AddendPart, ArmPart, SectionPart}
 use Rattle.ec_check.specs.Parts.{OperationPart, MemberPart, variable, constant, condition, operation, BodyPart, Holder, ObjectPart}
 use Rattle.ec_check.specs.Places.{Env, fields_of, type_found, type_or}
 use Rattle.ec_check.specs.WellTyped.{Site, typed, is_well_statement, is_well_block, IsWellOperation, constant_type_at}
@@ -188,7 +188,7 @@ pub record WellStatement (x : StatementPart) : Type 0 where
       (is_well_statement site (x.core env) ≡ true) × AreWell site (x.made env.scope).operations
 
 abbrev pub WellLink : LinkPart → Type 0
-WellLink (call name arguments) = Every WellPart arguments
+WellLink (call name arguments marks) = Every WellPart arguments
 WellLink (index number at) = WellPart number
 
 abbrev pub WellFactor : FactorPart → Type 0
@@ -200,7 +200,7 @@ WellAddend a = WellPart a.value
 abbrev pub WellArm : ArmPart → Type 0
 WellArm a = WellPart a.condition × WellPiece a.block
 
-abbrev pub WellProcess : ProcessPart → Type 0
+abbrev pub WellProcess : SectionPart → Type 0
 WellProcess p = WellPiece p.block
 
 abbrev pub WellOperation : OperationPart → Type 0

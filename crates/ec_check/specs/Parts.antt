@@ -1,7 +1,8 @@
 -- The tree as its core is made of it: each part with what the static rules know of it; its core; the classes and operations
 -- that stand within it; and the types of the expressions within it, both in the order of the text.
-use Rattle.std.specs.Prelude.{Bool, List, [], ◌++◌, map, Option, option_map}
+use Rattle.std.specs.Prelude.{Bool, List, [], ◌++◌, map, Option, Some, None, option_map}
 use Rattle.ec_ast.specs.declared.Additive.{Additive}
+use Rattle.ec_ast.specs.declared.Carried.{Carried}
 use Rattle.ec_ast.specs.declared.Multiplicative.{Multiplicative}
 use Rattle.ec_ast.specs.declared.Name.{Name}
 use Rattle.ec_ast.specs.declared.Parameter.{Parameter}
@@ -16,8 +17,8 @@ use Rattle.ec_core.specs.declared.Operation.{Operation}
 use Rattle.ec_core.specs.declared.Statement.{Statement}
 use Rattle.ec_rules.specs.Parts as judged
 use Rattle.ec_types.specs.declared.scopes.scope.Scope.{Scope}
-use Rattle.ec_ast.specs.Kinds.{Kinds, ExpressionOf, LinkOf, MemberOf, StatementOf, AddendOf, ArmOf, BlockOf, BodyOf, FactorOf}
-use Rattle.ec_ast.specs.Kinds.{ObjectOf, OperationOf, ProcessOf}
+use Rattle.ec_ast.specs.Kinds.{Kinds, ExpressionOf, LinkOf, MemberOf, StatementOf, AddendOf, ArgumentOf, ArmOf, BlockOf, BodyOf, FactorOf}
+use Rattle.ec_ast.specs.Kinds.{ObjectOf, OperationOf, SectionOf}
 use Rattle.ec_ast.specs.Layers.{Maps}
 
 -- classes and object constructors, and operations
@@ -52,8 +53,18 @@ pub record StatementPart : Type 0 where
   pub locals : Scope → List StaticType
   pub within : Scope → List (Option StaticType)
 
+pub record ArgumentPart : Type 0 where
+  pub carried : Option Carried
+  pub value : Part
+
+abbrev pub values_of : List ArgumentPart → List Part
+values_of arguments = map (λ a. a.value) arguments
+
+abbrev pub marks_of : List ArgumentPart → List (Option Carried)
+marks_of arguments = map (λ a. a.carried) arguments
+
 pub data LinkPart : Type 0 where
-  call : Name → List Part → LinkPart
+  call : Name → List Part → List (Option Carried) → LinkPart
   index : Part → Span → LinkPart
 
 pub record FactorPart : Type 0 where
@@ -70,9 +81,13 @@ pub record ArmPart : Type 0 where
   pub condition : Part
   pub block : Piece
 
-pub record ProcessPart : Type 0 where
+pub record SectionPart : Type 0 where
   pub at : Span
   pub block : Piece
+
+abbrev pub block_in : Option SectionPart → Option Piece
+block_in None = None
+block_in (Some s) = Some s.block
 
 pub record OperationPart : Type 0 where
   pub is_exported : Bool
@@ -80,6 +95,7 @@ pub record OperationPart : Type 0 where
   pub parameters : List Parameter
   pub result : Option Parameter
   pub block : Piece
+  pub failure : Option Piece
   pub end_name : Name
 
 -- whether a field is attached stands first
@@ -92,7 +108,7 @@ pub data MemberPart : Type 0 where
 pub record BodyPart : Type 0 where
   pub members : List MemberPart
   pub initially : Option Piece
-  pub process : Option ProcessPart
+  pub process : Option SectionPart
 
 -- an object constructor, or a class with its parameters
 abbrev pub Holder : Type 0
@@ -106,8 +122,11 @@ pub record ObjectPart : Type 0 where
 -- ---- what the static rules know of the parts
 
 abbrev pub link_judged : LinkPart → judged.LinkPart
-link_judged (call name arguments) = judged.call name (map (λ a. a.part) arguments)
+link_judged (call name arguments marks) = judged.call name (map (λ a. a.part) arguments) marks
 link_judged (index number at) = judged.index number.part at
+
+abbrev pub argument_judged : ArgumentPart → judged.ArgumentPart
+argument_judged a = record { carried = a.carried; value = a.value.part }
 
 abbrev pub factor_judged : FactorPart → judged.FactorPart
 factor_judged f = record { operator = f.operator; value = f.value.part }
@@ -118,8 +137,8 @@ addend_judged a = record { operator = a.operator; value = a.value.part }
 abbrev pub arm_judged : ArmPart → judged.ArmPart
 arm_judged a = record { condition = a.condition.part; block = a.block.piece }
 
-abbrev pub process_judged : ProcessPart → judged.ProcessPart
-process_judged p = record { at = p.at; block = p.block.piece }
+abbrev pub section_judged : SectionPart → judged.SectionPart
+section_judged p = record { at = p.at; block = p.block.piece }
 
 abbrev pub operation_judged : OperationPart → judged.OperationPart
 operation_judged o = record {
@@ -127,6 +146,7 @@ operation_judged o = record {
   parameters = o.parameters;
   result = o.result;
   block = o.block.piece;
+  failure = option_map (λ p. p.piece) o.failure;
   end_name = o.end_name;
 }
 
@@ -140,12 +160,13 @@ abbrev pub body_judged : BodyPart → judged.BodyPart
 body_judged b = record {
   members = map member_judged b.members;
   initially = option_map (λ p. p.piece) b.initially;
-  process = option_map process_judged b.process;
+  process = option_map section_judged b.process;
 }
 
 abbrev pub holder_judged : Holder → judged.Holder
 holder_judged h = record {
   name = h.name;
+  is_immutable = h.is_immutable;
   is_monitored = h.is_monitored;
   parameters = h.parameters;
   body = body_judged h.body;
@@ -162,13 +183,14 @@ kinds = record {
   member = MemberPart;
   statement = StatementPart;
   addend = AddendPart;
+  argument = ArgumentPart;
   arm = ArmPart;
   block = Piece;
   body = BodyPart;
   factor = FactorPart;
   object = ObjectPart;
   operation = OperationPart;
-  process = ProcessPart;
+  section = SectionPart;
 }
 
 -- ---- one layer of the tree, with parts in it
@@ -188,6 +210,9 @@ AMember = MemberOf kinds
 abbrev pub AnAddend : Type 0
 AnAddend = AddendOf kinds
 
+abbrev pub AnArgument : Type 0
+AnArgument = ArgumentOf kinds
+
 abbrev pub AnArm : Type 0
 AnArm = ArmOf kinds
 
@@ -206,8 +231,8 @@ AnObject = ObjectOf kinds
 abbrev pub AnOperation : Type 0
 AnOperation = OperationOf kinds
 
-abbrev pub AProcess : Type 0
-AProcess = ProcessOf kinds
+abbrev pub ASection : Type 0
+ASection = SectionOf kinds
 
 -- what the static rules know of a part of each kind
 abbrev pub parts_judged : Maps kinds judged.kinds
@@ -217,11 +242,12 @@ parts_judged = record {
   member = member_judged;
   statement = λ x. x.part;
   addend = addend_judged;
+  argument = argument_judged;
   arm = arm_judged;
   block = λ x. x.piece;
   body = body_judged;
   factor = factor_judged;
   object = object_judged;
   operation = operation_judged;
-  process = process_judged;
+  section = section_judged;
 }

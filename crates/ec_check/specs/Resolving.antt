@@ -6,7 +6,7 @@ use Rattle.ec_ast.specs.declared.Parameter.{Parameter}
 use Rattle.ec_ast.specs.declared.Expression.TheOpen.{Expression-F, Statement-F}
 use Rattle.ec_base.specs.Stack.{top_of, below_of}
 use Rattle.ec_check.specs.Parts.{Made, nothing_made, both_made, Part, Piece, StatementPart, LinkPart, call, index, FactorPart, AddendPart}
-use Rattle.ec_check.specs.Parts.{ArmPart, ProcessPart, OperationPart, MemberPart, variable, constant, condition, operation, BodyPart}
+use Rattle.ec_check.specs.Parts.{ArmPart, SectionPart, OperationPart, MemberPart, variable, constant, condition, operation, BodyPart}
 use Rattle.ec_check.specs.Parts.{Holder, AnExpression, AStatement, link_judged, operation_judged, holder_judged}
 use Rattle.ec_check.specs.Places.{Env, condition_named, field_named, place_of, type_or, type_found}
 use Rattle.ec_types.specs.Types.{number_at, vector_of}
@@ -64,7 +64,7 @@ abbrev pub cores_of : Env → List Part → List Expression
 cores_of env parts = map (λ p. p.core env) parts
 
 abbrev pub link_core : Env → Receiver → LinkPart → Link
-link_core env before (call name arguments) =
+link_core env before (call name arguments marks) =
     called (builtin_of (type_of_receiver env.scope before) name) name (cores_of env arguments) (result_of (callee env.scope before name))
 link_core env before (index number at) =
     l.Element (number.core env) (type_or (type_indexed (type_of_receiver env.scope before))) at.from
@@ -149,7 +149,7 @@ core_of_expression (Expression-F.Parenthesised x at) env = x.core env
 core_of_expression (Expression-F.Constructor o) env =
     e.Construct (number_of_holder env.scope o.holder) (map (place_of env) (captures_of env.scope o.holder))
 core_of_expression (Expression-F.NodeAt number at word) env = e.NodeAt (number.core env) word.from
-core_of_expression (Expression-F.NodeCount at) env = e.NodeCount
+core_of_expression (Expression-F.NodeCount at word) env = e.NodeCount
 core_of_expression (Expression-F.NewVector of size at word) env =
     e.NewVector (vector_of (written_in env.scope of)) (size.core env) word.from
 core_of_expression (Expression-F.Postfix head links) env = chain_of env head links
@@ -322,6 +322,13 @@ behind_heading env parameters result = record {
 abbrev pub env_of_operation : Env → OperationPart → Env
 env_of_operation env o = behind_heading (at_start env) o.parameters o.result
 
+abbrev pub core_of_block : Env → Option Piece → Option Block
+core_of_block env block = option_map (λ b. b.core env) block
+
+-- The locals of a failure clause are numbered behind those of the block.
+abbrev pub locals_of_blocks : Scope → OperationPart → List StaticType
+locals_of_blocks scope o = o.block.locals scope ++ locals_of_block scope o.failure
+
 abbrev pub operation_core : ℕ → Env → OperationPart → Operation
 operation_core class env o = record {
   class = class;
@@ -331,8 +338,9 @@ operation_core class env o = record {
   is_exported = o.is_exported;
   parameters = length o.parameters;
   has_result = is_some o.result;
-  variables = heading_types env.scope o.parameters o.result ++ o.block.locals (scope_of_operation env.scope (operation_judged o));
+  variables = heading_types env.scope o.parameters o.result ++ locals_of_blocks (scope_of_operation env.scope (operation_judged o)) o;
   block = o.block.core (env_of_operation env o);
+  clause = core_of_block (behind_block (env_of_operation env o) o.block) o.failure;
 }
 
 abbrev pub just_operation : Operation → Made
@@ -348,12 +356,20 @@ abbrev pub all_made : Scope → List Part → Made
 all_made scope [] = nothing_made
 all_made scope (p ∷ ps) = both_made (p.made scope) (all_made scope ps)
 
+abbrev pub initially_made : Scope → Option Piece → Made
+initially_made scope None = nothing_made
+initially_made scope (Some block) = block.made scope
+
+-- what is made within the block of an operation, and then within its failure clause
+abbrev pub blocks_made : Scope → OperationPart → Made
+blocks_made scope o = both_made (o.block.made scope) (initially_made scope o.failure)
+
 abbrev pub member_made : ℕ → Env → MemberPart → Made
 member_made class env (variable is_attached name of value) = made_if env.scope value
 member_made class env (constant is_attached name of value) = value.made env.scope
 member_made class env (condition name) = nothing_made
 member_made class env (operation o) =
-    both_made (just_operation (operation_core class env o)) (o.block.made (scope_of_operation env.scope (operation_judged o)))
+    both_made (just_operation (operation_core class env o)) (blocks_made (scope_of_operation env.scope (operation_judged o)) o)
 
 abbrev pub members_made : ℕ → Env → List MemberPart → Made
 members_made class env [] = nothing_made
@@ -415,9 +431,10 @@ initial_operation class env h = record {
   has_result = false;
   variables = locals_of_block env.scope h.body.initially;
   block = initial_block (at_start env) h.body;
+  clause = None;
 }
 
-abbrev pub process_operation : ℕ → Env → Name → ProcessPart → Operation
+abbrev pub process_operation : ℕ → Env → Name → SectionPart → Operation
 process_operation class env name p = record {
   class = class;
   kind = kind.Process;
@@ -428,21 +445,18 @@ process_operation class env name p = record {
   has_result = false;
   variables = p.block.locals (in_a_process env.scope);
   block = p.block.core (env_in (in_a_process env.scope) env.captures);
+  clause = None;
 }
 
-abbrev pub process_made : ℕ → Env → Name → Option ProcessPart → Made
+abbrev pub process_made : ℕ → Env → Name → Option SectionPart → Made
 process_made class env name None = nothing_made
 process_made class env name (Some p) =
     both_made (just_operation (process_operation class env name p)) (p.block.made (in_a_process env.scope))
 
 -- behind a process section, which is the last part of a body
-abbrev pub behind_process : Env → Option ProcessPart → Env
+abbrev pub behind_process : Env → Option SectionPart → Env
 behind_process env None = env
 behind_process env (Some p) = in_scope (in_a_process env.scope) env
-
-abbrev pub initially_made : Scope → Option Piece → Made
-initially_made scope None = nothing_made
-initially_made scope (Some block) = block.made scope
 
 -- all that stands in a body, which begins with operation 0
 abbrev pub body_made : ℕ → Env → Holder → Made
@@ -479,7 +493,7 @@ holder_made scope h = both_made (just_class (class_core scope h)) (body_made (nu
 -- ---- what is made within expressions and statements
 
 abbrev pub link_parts : LinkPart → List Part
-link_parts (call name arguments) = arguments
+link_parts (call name arguments marks) = arguments
 link_parts (index number at) = number ∷ []
 
 abbrev pub parts_of_links : List LinkPart → List Part

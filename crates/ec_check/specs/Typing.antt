@@ -2,7 +2,7 @@
 -- Where a value isn't needed, as that of a call that is a statement, there may be none, and it isn't listed.
 use Rattle.std.specs.Prelude.{List, [], ◌∷◌, ◌++◌, map, Option, Some, None}
 use Rattle.ec_ast.specs.declared.Expression.TheOpen.{Expression-F, Statement-F}
-use Rattle.ec_check.specs.Parts.{Part, Piece, StatementPart, LinkPart, ArmPart, ProcessPart, MemberPart, variable, constant}
+use Rattle.ec_check.specs.Parts.{Part, Piece, StatementPart, LinkPart, ArmPart, SectionPart, OperationPart, MemberPart, variable, constant}
 use Rattle.ec_check.specs.Parts.{condition, operation, Holder, AnExpression, AStatement, link_judged, operation_judged, holder_judged}
 use Rattle.ec_check.specs.Resolving.{parts_of}
 use Rattle.ec_types.specs.declared.conform.static_type.StaticType.{StaticType}
@@ -51,13 +51,17 @@ abbrev pub statements_within : List StatementPart → Scope → Types
 statements_within [] scope = []
 statements_within (x ∷ more) scope = x.within scope ++ statements_within more (declaring (x.part.declares scope) scope)
 
+-- in the block of an operation, and then in its failure clause
+abbrev pub blocks_within : Scope → OperationPart → Types
+blocks_within scope o = o.block.within scope ++ block_within scope o.failure
+
 abbrev pub member_within : Scope → MemberPart → Types
 member_within scope (variable is_attached name of value) = types_if scope value
 member_within scope (constant is_attached name of value) = types_in scope value
 member_within scope (condition name) = []
-member_within scope (operation o) = o.block.within (scope_of_operation scope (operation_judged o))
+member_within scope (operation o) = blocks_within (scope_of_operation scope (operation_judged o)) o
 
-abbrev pub process_within : Scope → Option ProcessPart → Types
+abbrev pub process_within : Scope → Option SectionPart → Types
 process_within scope None = []
 process_within scope (Some p) = p.block.within (in_a_process scope)
 

@@ -9,7 +9,7 @@ ghost use Rattle.ec_rules.specs.Calls as calls;
 ghost use Rattle.ec_rules.specs.Tree as judged;
 ghost use Rattle.ec_types.specs.Scopes.{class_named};
 
-use crate::expressions::{resolve, resolve_all};
+use crate::expressions::{resolve, resolve_arguments};
 use crate::resolver::{Resolver, type_or};
 use ec_ast::{self as tree, Name};
 use ec_core::{Builtin, Expression, Link};
@@ -91,7 +91,7 @@ fn resolve_link<'a>(
 {
     match link {
         tree::Link::Call(name, arguments) => {
-            let found = resolve_all(alloc, r, arguments.as_slice())?;
+            let found = resolve_arguments(alloc, r, arguments.as_slice())?;
             called(alloc, &r.walk.scope, before, name, found)
         }
         tree::Link::Index(number, at) => {

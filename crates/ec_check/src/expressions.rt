@@ -1,8 +1,9 @@
 //! The core of expressions.
 ghost use Rattle.std.specs.Prelude.{◌≡◌, IfOk, OnOk, map};
 ghost use Rattle.ec_check.specs.Making.{HasMade, env_of};
+ghost use Rattle.ec_check.specs.Parts.{values_of};
 ghost use Rattle.ec_check.specs.Resolving as spec;
-ghost use Rattle.ec_check.specs.Tree.{addend_of, factor_of, part_of};
+ghost use Rattle.ec_check.specs.Tree.{addend_of, argument_of, factor_of, part_of};
 ghost use Rattle.ec_types.specs.Types as types;
 ghost use Rattle.ec_rules.specs.Parts.{value_in};
 ghost use Rattle.ec_rules.specs.Tree as judged;
@@ -42,7 +43,7 @@ pub fn resolve<'a>(
         tree::Expression::NodeAt(e, _, word) => {
             Ok(Expression::NodeAt(resolve_boxed(alloc, r, e.get())?, word.from))
         }
-        tree::Expression::NodeCount(_) => Ok(Expression::NodeCount),
+        tree::Expression::NodeCount(_, _) => Ok(Expression::NodeCount),
         tree::Expression::NewVector(of, e, _, word) => {
             let made = vector_type(&r.walk.scope, of)?;
             Ok(Expression::NewVector(made, resolve_boxed(alloc, r, e.get())?, word.from))
@@ -156,6 +157,24 @@ pub fn resolve_all<'a>(
     let mut found = Items::new(alloc);
     for e in es {
         found.push(resolve(alloc, r, e)?)?;
+    }
+    Ok(found)
+}
+
+/// The cores of arguments, one after another.
+#[cycle(core)]
+pub(crate) fn resolve_arguments<'a>(
+    alloc: Global,
+    r: &mut Resolver<'a>,
+    arguments: &'a [tree::Argument],
+) -> Result<Items<Expression>, AllocError>
+    ensures core { IfOk result (λ cs. cs ≡ spec.cores_of (env_of r.old) (values_of (map argument_of arguments.now))) }
+    ensures made { OnOk result
+        (HasMade r.old r.new (spec.all_made r.old.walk.scope (values_of (map argument_of arguments.now)))) }
+{
+    let mut found = Items::new(alloc);
+    for a in arguments {
+        found.push(resolve(alloc, r, &a.value)?)?;
     }
     Ok(found)
 }

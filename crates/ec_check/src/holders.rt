@@ -5,7 +5,7 @@ ghost use Rattle.ec_check.specs.Making.{HasGone, HasMade, env_of, holder_of};
 ghost use Rattle.ec_check.specs.Parts.{nothing_made, operation, holder_judged};
 ghost use Rattle.ec_check.specs.Places.{place_of, type_found};
 ghost use Rattle.ec_check.specs.Resolving as spec;
-ghost use Rattle.ec_check.specs.Tree.{member_of, object_of, operation_of, process_of};
+ghost use Rattle.ec_check.specs.Tree.{member_of, object_of, operation_of, section_of};
 ghost use Rattle.ec_core.specs.declared.Expression.TheVariants as e;
 ghost use Rattle.ec_rules.specs.Lists.{each};
 ghost use Rattle.ec_rules.specs.Members.{scope_of};
@@ -13,7 +13,7 @@ ghost use Rattle.ec_types.specs.Scopes.{find};
 
 use crate::expressions::resolve;
 use crate::resolver::{Resolver, type_or};
-use crate::statements::{resolve_block, resolve_block_if, resolve_if};
+use crate::statements::{resolve_block, resolve_if, resolve_section_if};
 use crate::variables::Variables;
 use ec_ast::{self as tree, Name, Parameter};
 use ec_core::{Block, Class, Expression, Field, Kind, Operation, Place, Statement};
@@ -223,6 +223,7 @@ fn resolve_operation<'a>(
     begin_operation(alloc, r, o.parameters.as_slice(), &o.result)?;
     let before = std::mem::replace(&mut r.made.operations, Items::new(alloc));
     let block = resolve_block(alloc, r, &o.block)?;
+    let clause = resolve_section_if(alloc, r, &o.failure)?;
     let within = std::mem::replace(&mut r.made.operations, before);
     r.walk.scope.forget_locals(count);
     let variables = std::mem::replace(&mut r.variables, around);
@@ -236,6 +237,7 @@ fn resolve_operation<'a>(
         has_result: o.result.is_some(),
         variables: variables.types,
         block,
+        clause,
     })?;
     r.made.operations.append(within)
 }
@@ -314,11 +316,11 @@ fn resolve_process<'a>(
     r: &mut Resolver<'a>,
     class: usize,
     name: &Name,
-    process: &'a Option<tree::ProcessSection>,
+    process: &'a Option<tree::Section>,
 ) -> Result<(), AllocError>
     ensures { OnOk result
-        (HasGone r.old r.new (spec.behind_process (env_of r.old) (option_map process_of process.now)) []
-        (spec.process_made class (env_of r.old) name.now (option_map process_of process.now))) }
+        (HasGone r.old r.new (spec.behind_process (env_of r.old) (option_map section_of process.now)) []
+        (spec.process_made class (env_of r.old) name.now (option_map section_of process.now))) }
 {
     let Some(p) = process else {
         return Ok(());
@@ -339,6 +341,7 @@ fn resolve_process<'a>(
         has_result: false,
         variables: variables.types,
         block,
+        clause: None,
     })?;
     r.made.operations.append(within)
 }
@@ -371,13 +374,13 @@ fn resolve_body<'a>(
     heading: Heading<'a>,
 ) -> Result<(), AllocError>
     ensures { OnOk result
-        (HasGone r.old r.new (spec.behind_process (env_of r.old) (option_map process_of (out-Body body.now).process)) []
+        (HasGone r.old r.new (spec.behind_process (env_of r.old) (option_map section_of (out-Body body.now).process)) []
         (spec.body_made class (env_of r.old) (holder_of heading.entry body.now))) }
 {
     let around = std::mem::replace(&mut r.variables, Variables::new(alloc));
     let before = std::mem::replace(&mut r.made.operations, Items::new(alloc));
     let stored = resolve_members(alloc, r, class, body.members.as_slice())?;
-    let block = resolve_block_if(alloc, r, &body.initially)?;
+    let block = resolve_section_if(alloc, r, &body.initially)?;
     let statements = with_statements(stored, block)?;
     let within = std::mem::replace(&mut r.made.operations, before);
     let variables = std::mem::replace(&mut r.variables, around);
@@ -391,6 +394,7 @@ fn resolve_body<'a>(
         has_result: false,
         variables: variables.types,
         block: Block { statements },
+        clause: None,
     })?;
     r.made.operations.append(within)?;
     resolve_process(alloc, r, class, heading.name, &body.process)

@@ -3,10 +3,10 @@ ghost use Rattle.std.specs.Prelude.{◌≡◌, [], ◌∷◌, IfOk, OnOk, length
 ghost use Rattle.ec_ast.specs.declared.Expression.TheOpen.{Statement-F};
 ghost use Rattle.ec_base.specs.Stack.{top_of, below_of};
 ghost use Rattle.ec_check.specs.Making.{HasGone, HasMade, env_of};
-ghost use Rattle.ec_check.specs.Parts.{nothing_made};
+ghost use Rattle.ec_check.specs.Parts.{block_in, nothing_made};
 ghost use Rattle.ec_check.specs.Places as places;
 ghost use Rattle.ec_check.specs.Resolving as spec;
-ghost use Rattle.ec_check.specs.Tree.{arm_of, block_of, part_of, statement_of};
+ghost use Rattle.ec_check.specs.Tree.{arm_of, block_of, part_of, section_of, statement_of};
 ghost use Rattle.ec_core.specs.declared.Expression.{out-Expression};
 ghost use Rattle.ec_core.specs.declared.Link.{out-Link};
 ghost use Rattle.ec_core.specs.declared.Statement.TheVariants as s;
@@ -347,6 +347,26 @@ pub fn resolve_block_if<'a>(
     match block {
         None => Ok(None),
         Some(block) => Ok(Some(resolve_block(alloc, r, block)?)),
+    }
+}
+
+/// The core of a section's block, where there is one. The error is want of memory.
+#[cycle(core)]
+pub fn resolve_section_if<'a>(
+    alloc: Global,
+    r: &mut Resolver<'a>,
+    section: &'a Option<tree::Section>,
+) -> Result<Option<Block>, AllocError>
+    ensures core { IfOk result (λ b. b ≡ spec.core_of_block (env_of r.old) (block_in (option_map section_of section.now))) }
+    ensures gone { OnOk result
+        (HasGone r.old r.new
+        (spec.further (length (spec.locals_of_block r.old.walk.scope (block_in (option_map section_of section.now)))) (env_of r.old))
+        (spec.locals_of_block r.old.walk.scope (block_in (option_map section_of section.now)))
+        (spec.initially_made r.old.walk.scope (block_in (option_map section_of section.now)))) }
+{
+    match section {
+        None => Ok(None),
+        Some(s) => Ok(Some(resolve_block(alloc, r, &s.block)?)),
     }
 }
 

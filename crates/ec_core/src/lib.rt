@@ -187,6 +187,8 @@ pub struct Operation {
     pub has_result: bool,
     pub variables: Items<StaticType>,
     pub block: Block,
+    /// What runs where its block fails, if anything does. Its locals are the last of the variables.
+    pub clause: Option<Block>,
 }
 
 /// A field that is declared: whether it is attached, and its type.

@@ -4,7 +4,7 @@ use Rattle.std.proofs.Common.{All, arith}
 use Rattle.std.proofs.lemmas.Bool.{eqb-true, eq-eqb}
 use Rattle.ec_ast.specs.declared.Program.{Program}
 use Rattle.ec_check.proofs.Every.{Every, every_weaker, all_of, not_both}
-use Rattle.ec_check.specs.Parts.{Made, both_made, OperationPart, ProcessPart, Holder}
+use Rattle.ec_check.specs.Parts.{Made, both_made, OperationPart, SectionPart, Holder}
 use Rattle.ec_check.specs.Program.{constants_made, outermost, core_of}
 use Rattle.ec_check.specs.Resolving.{just_operation, number_of_holder}
 use Rattle.ec_types.specs.Declarations.{declarations_of}
@@ -12,7 +12,7 @@ use Rattle.ec_types.specs.Table.{Table, IsTable}
 use Rattle.ec_core.specs.declared.Class.{Class}
 use Rattle.ec_core.specs.declared.Kind.{Kind}
 use Rattle.ec_core.specs.declared.Operation.{Operation}
-use Rattle.ec_core_laws.proofs.Operations.{named_of, process_of, holder_with, process_with}
+use Rattle.ec_core_laws.proofs.Operations.{named_of, section_of, holder_with, process_with}
 use Rattle.ec_core_laws.proofs.Programs.{made_holds}
 use Rattle.ec_core_laws.specs.Beginnings.{is_initial, is_process, count_of_class, BeginsOnce}
 use Rattle.ec_places.specs.Rising.{IsRising}
@@ -78,25 +78,25 @@ holder_match scope h m k n =
     let p : count_of_class is_process n m.operations ≤ with_number n (numbers m.classes) = (k n).process in
     record { initial = ap (λ x. one_if (number_of_holder scope h == n) + x) i; process = omega arith }
 
-section_match : (scope : Scope) (h : Holder) (p : ProcessPart) (a b : Made) → AllMatch a → AllMatch b →
+section_match : (scope : Scope) (h : Holder) (p : SectionPart) (a b : Made) → AllMatch a → AllMatch b →
     AllMatch (holder_with scope h (both_made a (process_with scope h p b)))
 section_match scope h p a b j k n =
     let number : ℕ = number_of_holder scope h in
     let c : with_number n (numbers (a.classes ++ b.classes)) ≡ with_number n (numbers a.classes) + with_number n (numbers b.classes) =
     counts_joined n a.classes b.classes in
-    let i : count_of_class is_initial n (a.operations ++ (process_of scope h p ∷ b.operations))
+    let i : count_of_class is_initial n (a.operations ++ (section_of scope h p ∷ b.operations))
     ≡ count_of_class is_initial n a.operations + (0 + count_of_class is_initial n b.operations) =
-    operations_joined is_initial n a.operations (process_of scope h p ∷ b.operations) in
-    let q : count_of_class is_process n (a.operations ++ (process_of scope h p ∷ b.operations))
+    operations_joined is_initial n a.operations (section_of scope h p ∷ b.operations) in
+    let q : count_of_class is_process n (a.operations ++ (section_of scope h p ∷ b.operations))
     ≡ count_of_class is_process n a.operations + (one_if (number_of_holder scope h == n) + count_of_class is_process n b.operations) =
-    operations_joined is_process n a.operations (process_of scope h p ∷ b.operations) in
+    operations_joined is_process n a.operations (section_of scope h p ∷ b.operations) in
     let ji : count_of_class is_initial n a.operations ≡ with_number n (numbers a.classes) = (j n).initial in
     let jp : count_of_class is_process n a.operations ≤ with_number n (numbers a.classes) = (j n).process in
     let ki : count_of_class is_initial n b.operations ≡ with_number n (numbers b.classes) = (k n).initial in
     let kp : count_of_class is_process n b.operations ≤ with_number n (numbers b.classes) = (k n).process in
-    let all : count_of_class is_initial n (a.operations ++ (process_of scope h p ∷ b.operations))
+    let all : count_of_class is_initial n (a.operations ++ (section_of scope h p ∷ b.operations))
     ≡ with_number n (numbers (a.classes ++ b.classes)) = omega arith in
-    let some : count_of_class is_process n (a.operations ++ (process_of scope h p ∷ b.operations))
+    let some : count_of_class is_process n (a.operations ++ (section_of scope h p ∷ b.operations))
     ≤ one_if (number_of_holder scope h == n) + with_number n (numbers (a.classes ++ b.classes)) = omega arith in
     record { initial = ap (λ x. one_if (number_of_holder scope h == n) + x) all; process = some_more _ _ some }
   where

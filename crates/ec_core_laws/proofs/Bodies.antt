@@ -3,7 +3,7 @@ use Rattle.std.proofs.Common.{◌≡◌, ℕ, ◌+◌, ◌≤◌, Bool, true, fa
 use Rattle.std.proofs.lemmas.List.{length-append}
 use Rattle.ec_base.proofs.Stacks.{top_of-push}
 use Rattle.ec_check.proofs.Every.{none_left, none_right}
-use Rattle.ec_check.specs.Parts.{OperationPart, ProcessPart, MemberPart, variable, constant, condition, operation, Holder}
+use Rattle.ec_check.specs.Parts.{OperationPart, SectionPart, MemberPart, variable, constant, condition, operation, Holder}
 use Rattle.ec_check.specs.Parts.{member_judged, operation_judged, holder_judged}
 use Rattle.ec_check.specs.Resolving.{condition_count, conditions_in}
 use Rattle.ec_core.specs.declared.Class.{Class}
@@ -42,11 +42,11 @@ operation_small scope h o e =
     (none_right (doubled_in_operation (operation_judged o)) _
     (none_right (o.block.piece (scope_of_operation (scope_in scope h) (operation_judged o))).faults _ within))))
 
-pub section_faultless : (scope : Scope) (h : Holder) (p : ProcessPart) → ProcessFaultless scope h p →
+pub section_faultless : (scope : Scope) (h : Holder) (p : SectionPart) → ProcessFaultless scope h p →
     (p.block.piece (in_a_process (scope_in scope h))).faults ≡ []
 section_faultless scope h p e = none_left _ _ e
 
-pub section_small : (scope : Scope) (h : Holder) (p : ProcessPart) → ProcessFaultless scope h p →
+pub section_small : (scope : Scope) (h : Holder) (p : SectionPart) → ProcessFaultless scope h p →
     too_large p.at 0 (p.block.piece (in_a_process (scope_in scope h))).done ≡ []
 section_small scope h p e = none_left _ _ (none_right _ _ e)
 

@@ -76,8 +76,8 @@ no_name_behind (Vector of) ls name is = cc
 no_name_behind (Created n) ls name is = cc
 no_name_behind Itself ls name is = cc
 no_name_behind (NameAlone n) [] name is = cc
-no_name_behind (NameAlone n) (judged.call word arguments ∷ []) name is = no_name_if _ n name is
-no_name_behind (NameAlone n) (judged.call word arguments ∷ l ∷ ls) name is = cc
+no_name_behind (NameAlone n) (judged.call word arguments marks ∷ []) name is = no_name_if _ n name is
+no_name_behind (NameAlone n) (judged.call word arguments marks ∷ l ∷ ls) name is = cc
 no_name_behind (NameAlone n) (judged.index number at ∷ ls) name is = cc
 no_name_behind Other ls name is = cc
 
@@ -93,7 +93,7 @@ layer_alone (Expression-F.Expression::Variable own) name is =
 layer_alone (Expression-F.Parenthesised x at) name is = absurd (no_name_in_parentheses (part_of x).part.form name is)
 layer_alone (Expression-F.Constructor o) name is = cc
 layer_alone (Expression-F.NodeAt x at word) name is = cc
-layer_alone (Expression-F.NodeCount at) name is = cc
+layer_alone (Expression-F.NodeCount at word) name is = cc
 layer_alone (Expression-F.NewVector of x at word) name is = cc
 layer_alone (Expression-F.Postfix x links) name is =
     absurd (no_name_behind (part_of x).part.form (map link_judged (map link_of links)) name is)
@@ -180,24 +180,24 @@ module _ (env : Env) (needed : Bool) (name : Name) (x : Expression) (alone : tre
       let class : (d : ClassMeant) × (class_named env.scope name.text ≡ Some d)
       × (d.number ≡ number_of_class (class_named env.scope name.text)) =
       some_class (class_named env.scope name.text) there in
-      let rest : Receiver = Typed (link_type env.scope (Creation name) (link_judged (call word parts))) in
+      let rest : Receiver = Typed (link_type env.scope (Creation name) (link_judged (call word parts marks))) in
       let behind : List CoreLink = links_core env rest (map link_of xs) in
       subst
       (λ ys.
       TiedExpression env (tree.Postfix x (roll-Link (Link-F.Call word arguments) ∷ xs))
       (chained (e.Create (number_of_class (class_named env.scope name.text)) ys) behind)
-      (all_made env.scope (parts_of_links (call word parts ∷ map link_of xs))))
+      (all_made env.scope (parts_of_links (call word parts marks ∷ map link_of xs))))
       (sym (creation_arguments env name word parts))
       (subst
       (λ n.
       TiedExpression env (tree.Postfix x (roll-Link (Link-F.Call word arguments) ∷ xs))
       (chained (e.Create n (cores_of env parts)) behind)
-      (all_made env.scope (parts_of_links (call word parts ∷ map link_of xs))))
+      (all_made env.scope (parts_of_links (call word parts marks ∷ map link_of xs))))
       class.2
       (subst
       (λ y.
       TiedExpression env (tree.Postfix x (roll-Link (Link-F.Call word arguments) ∷ xs)) y
-      (all_made env.scope (parts_of_links (call word parts ∷ map link_of xs))))
+      (all_made env.scope (parts_of_links (call word parts marks ∷ map link_of xs))))
       (chained_is (e.Create class.0.number (cores_of env parts)) behind)
       (subst
       (λ m.
@@ -216,9 +216,9 @@ module _ (env : Env) (needed : Bool) (name : Name) (x : Expression) (alone : tre
       (both_made (all_made env.scope parts) (all_made env.scope (parts_of_links (map link_of xs)))))
       alone
       (ties.creation name word class.1 is
-      (parts_tied arguments h env (first_link env (part_of x).part.at needed (Creation name) (call word parts) (map link_of xs) r))
+      (parts_tied arguments h env (first_link env (part_of x).part.at needed (Creation name) (call word parts marks) (map link_of xs) r))
       (links_tied xs k env (part_of x).part.at needed rest
-      (later_links env (part_of x).part.at needed (Creation name) (call word parts) (map link_of xs) r))))))))
+      (later_links env (part_of x).part.at needed (Creation name) (call word parts marks) (map link_of xs) r))))))))
   first_created (Link-F.Index z at) h is r = not_both is
 
 creation_tied : (env : Env) (needed : Bool) (name : Name) (x : Expression) (xs : List Link) → tree.Variable name ≡ x →

@@ -16,7 +16,7 @@ use Rattle.ec_ast.specs.declared.Member.TheVariants as member
 use Rattle.ec_ast.specs.declared.Name.{Name}
 use Rattle.ec_ast.specs.declared.ObjectConstructor.{roll-ObjectConstructor}
 use Rattle.ec_ast.specs.declared.Operation.{roll-Operation}
-use Rattle.ec_ast.specs.declared.ProcessSection.{ProcessSection, roll-ProcessSection}
+use Rattle.ec_ast.specs.declared.Section.{Section, roll-Section}
 use Rattle.ec_ast.specs.declared.Span.{Span}
 use Rattle.ec_ast.specs.declared.Statement.{Statement, roll-Statement}
 use Rattle.ec_ast.specs.declared.Statement.TheVariants as statement
@@ -31,7 +31,7 @@ use Rattle.ec_places.proofs.Among as among
 use Rattle.ec_places.proofs.Among.{Among}
 use Rattle.ec_ast.proofs.Rolled.{Rolled, folded, folds_are_rolled}
 use Rattle.ec_ast.specs.Kinds.{ExpressionLayer, LinkLayer, MemberLayer, StatementLayer, AddendLayer, ArmLayer, BlockLayer}
-use Rattle.ec_ast.specs.Kinds.{BodyLayer, FactorLayer, ObjectLayer, OperationLayer, ProcessLayer, tree}
+use Rattle.ec_ast.specs.Kinds.{BodyLayer, FactorLayer, ObjectLayer, OperationLayer, SectionLayer, tree}
 use Rattle.ec_ast.specs.Layers as layers
 use Rattle.ec_ast.specs.Layers.{Maps}
 
@@ -127,7 +127,7 @@ module _ {ts us : List Token} where
   pub of_operation : (y : OperationLayer) → Taken ts us (nodes.block y.block) → Taken ts us (nodes.operation (roll-Operation y))
   of_operation y h = subst (Taken ts us) (sym (rolled.operation y)) h
 
-  pub of_process : (y : ProcessLayer) → Taken ts us (nodes.block y.block) → Taken ts us (nodes.process (roll-ProcessSection y))
+  pub of_process : (y : SectionLayer) → Taken ts us (nodes.block y.block) → Taken ts us (nodes.process (roll-Section y))
   of_process y h = subst (Taken ts us) (sym (rolled.process y)) h
 
 -- ---- chains
@@ -271,7 +271,7 @@ module _ {ts us : List Token} where
   of_variable is_attached name of (Some x) h =
       of_member (Member-F.Member::Variable is_attached name of (Some x)) (member.rolls-Variable is_attached name of (Some x)) h
 
-  pub of_members : (xs : List Member) (initially : Option Block) (process : Option ProcessSection) →
+  pub of_members : (xs : List Member) (initially : Option Block) (process : Option Section) →
       Taken ts us (all_of (map nodes.member xs) + (if_there (option_map nodes.block initially) +
       if_there (option_map nodes.process process))) →
       Taken ts us (nodes.body (roll-Body (record { members = xs; initially = initially; process = process })))

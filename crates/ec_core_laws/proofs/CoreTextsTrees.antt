@@ -12,15 +12,15 @@ use Rattle.ec_ast.specs.declared.Link.{Link, roll-Link}
 use Rattle.ec_ast.specs.declared.Member.{Member, roll-Member}
 use Rattle.ec_ast.specs.declared.ObjectConstructor.{ObjectConstructor, roll-ObjectConstructor}
 use Rattle.ec_ast.specs.declared.Operation.{Operation, roll-Operation}
-use Rattle.ec_ast.specs.declared.ProcessSection.{ProcessSection, roll-ProcessSection}
+use Rattle.ec_ast.specs.declared.Section.{Section, roll-Section}
 use Rattle.ec_ast.specs.declared.Statement.{Statement, roll-Statement}
 use Rattle.ec_check.proofs.Every.{Every, every_left, every_right}
-use Rattle.ec_check.proofs.Rolled.{body_rolled, factor_rolled, object_rolled, operation_rolled, process_rolled}
+use Rattle.ec_check.proofs.Rolled.{body_rolled, factor_rolled, object_rolled, operation_rolled, section_rolled}
 use Rattle.ec_check.proofs.Rolled.{expression_mapped, link_mapped, member_mapped, statement_mapped, block_mapped, body_mapped}
 use Rattle.ec_check.proofs.Rolled.{part_rolled, link_rolled, member_rolled, statement_rolled, addend_rolled, arm_rolled, block_rolled}
-use Rattle.ec_check.specs.Parts.{AnExpression, AStatement, ABlock, OperationPart, ProcessPart}
+use Rattle.ec_check.specs.Parts.{AnExpression, AStatement, ABlock, OperationPart, SectionPart}
 use Rattle.ec_check.specs.Tree.{expression_step, statement_step, block_step, link_step, member_step, body_step}
-use Rattle.ec_check.specs.Tree.{object_of, operation_of, process_of}
+use Rattle.ec_check.specs.Tree.{object_of, operation_of, section_of}
 use Rattle.ec_check.specs.Tree.{part_of, link_of, member_of, statement_of, addend_of, arm_of, block_of, body_of, factor_of}
 use Rattle.ec_core_laws.proofs.Statements.{block_is}
 use Rattle.ec_core_laws.proofs.Trees as trees
@@ -33,9 +33,9 @@ use Rattle.ec_core_laws.proofs.CoreTextsStatements.{statement_core_fits, stateme
 use Rattle.ec_core_laws.specs.TreeTexts.{kinds, steps, IsBytes, expression_texts, link_texts, member_texts, body_texts}
 use Rattle.ec_core_laws.specs.TreeTexts.{statement_texts as texts_of_statement_layer}
 use Rattle.ec_rules.specs.Judging.{expression_part, statement_part}
-use Rattle.ec_ast.proofs.Claims.{AddendWith, ArmWith, BlockWith, BodyWith, FactorWith, ObjectWith, OperationWith, ProcessWith}
+use Rattle.ec_ast.proofs.Claims.{AddendWith, ArmWith, BlockWith, BodyWith, FactorWith, ObjectWith, OperationWith, SectionWith}
 use Rattle.ec_ast.proofs.Claims.{Claims, Passes, Held, trees as bare_trees, ExpressionWith, LinkWith, MemberWith, StatementWith}
-use Rattle.ec_ast.proofs.Claims.{bare_body, bare_factor, bare_object, bare_operation, bare_process, expression_holds, body_holds}
+use Rattle.ec_ast.proofs.Claims.{bare_body, bare_factor, bare_object, bare_operation, bare_section, expression_holds, body_holds}
 use Rattle.ec_ast.proofs.Claims.{bare_expression, bare_link, bare_member, bare_statement, bare_addend, bare_arm, bare_block}
 use Rattle.ec_ast.proofs.Rolled.{Rolled, folded, folds_are_rolled}
 use Rattle.ec_ast.specs.Kinds.{tree}
@@ -73,7 +73,7 @@ block_has b h = (
 abbrev OperationHas : OperationPart → Type 0
 OperationHas = trees.OperationHas PartFits StatementFits PieceFits
 
-abbrev ProcessHas : ProcessPart → Type 0
+abbrev ProcessHas : SectionPart → Type 0
 ProcessHas = trees.ProcessHas PartFits StatementFits PieceFits
 
 abbrev pub FittingExpression : Expression → Type 0
@@ -109,8 +109,8 @@ FittingObject x = AllFit (texts.object x) → ObjectHas (object_of x)
 abbrev FittingOperation : Operation → Type 0
 FittingOperation x = AllFit (texts.operation x) → OperationHas (operation_of x)
 
-abbrev FittingProcess : ProcessSection → Type 0
-FittingProcess x = AllFit (texts.process x) → ProcessHas (process_of x)
+abbrev FittingProcess : Section → Type 0
+FittingProcess x = AllFit (texts.process x) → ProcessHas (section_of x)
 
 abbrev fitting : Claims
 fitting = record {
@@ -125,7 +125,7 @@ fitting = record {
   factor = FittingFactor;
   object = FittingObject;
   operation = FittingOperation;
-  process = FittingProcess;
+  section = FittingProcess;
 }
 
 -- ---- lists of texts
@@ -172,7 +172,7 @@ parts_are (Expression-F.Expression::Variable name) h = tt
 parts_are (Expression-F.Parenthesised x at) h = x.1 h
 parts_are (Expression-F.Constructor o) h = o.1 h
 parts_are (Expression-F.NodeAt x at word) h = x.1 h
-parts_are (Expression-F.NodeCount at) h = tt
+parts_are (Expression-F.NodeCount at word) h = tt
 parts_are (Expression-F.NewVector of x at word) h = x.1 h
 parts_are (Expression-F.Postfix x links) h = one_and link_of texts.link LinkHas x links h
 parts_are (Expression-F.Negative x at) h = x.1 h
@@ -195,7 +195,7 @@ text_is (Expression-F.Expression::Variable name) h = tt
 text_is (Expression-F.Parenthesised x at) h = tt
 text_is (Expression-F.Constructor o) h = tt
 text_is (Expression-F.NodeAt x at word) h = tt
-text_is (Expression-F.NodeCount at) h = tt
+text_is (Expression-F.NodeCount at word) h = tt
 text_is (Expression-F.NewVector of x at word) h = tt
 text_is (Expression-F.Postfix x links) h = tt
 text_is (Expression-F.Negative x at) h = tt
@@ -306,10 +306,10 @@ operation_at y h =
     subst OperationHas (sym (operation_rolled (bare_operation fitting y)))
     (y.block.1 (subst AllFit (rolled.operation (bare_operation fitting y)) h))
 
-process_at : (y : ProcessWith fitting) → FittingProcess (roll-ProcessSection (bare_process fitting y))
+process_at : (y : SectionWith fitting) → FittingProcess (roll-Section (bare_section fitting y))
 process_at y h =
-    subst ProcessHas (sym (process_rolled (bare_process fitting y)))
-    (y.block.1 (subst AllFit (rolled.process (bare_process fitting y)) h))
+    subst ProcessHas (sym (section_rolled (bare_section fitting y)))
+    (y.block.1 (subst AllFit (rolled.process (bare_section fitting y)) h))
 
 abbrev body_layer : List (Held FittingMember) → Option (Held FittingBlock) → Option (Held FittingProcess) → BodyWith fitting
 body_layer ms i p = record { members = ms; initially = i; process = p }
@@ -362,7 +362,7 @@ passes = record {
   factor = factor_at;
   object = object_at;
   operation = operation_at;
-  process = process_at;
+  section = process_at;
 }
 
 pub fitting_part : (x : Expression) → FittingExpression x

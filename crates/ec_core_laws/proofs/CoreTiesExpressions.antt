@@ -175,8 +175,8 @@ layer_tied (Expression-F.Constructor o) h =
     subst (LayerTied (Expression-F.Constructor o)) (sym (tree.rolls-Constructor o)) (λ needed env r. constructor_tied env o h r)
 layer_tied (Expression-F.NodeAt x at word) h =
     subst (LayerTied (Expression-F.NodeAt x at word)) (sym (tree.rolls-NodeAt x at word)) (λ needed env r. ties.node_at (alone env x _ h r))
-layer_tied (Expression-F.NodeCount at) h =
-    subst (LayerTied (Expression-F.NodeCount at)) (sym (tree.rolls-NodeCount at)) (λ needed env r. ties.node_count)
+layer_tied (Expression-F.NodeCount at word) h =
+    subst (LayerTied (Expression-F.NodeCount at word)) (sym (tree.rolls-NodeCount at word)) (λ needed env r. ties.node_count)
 layer_tied (Expression-F.NewVector of x at word) h =
     subst (LayerTied (Expression-F.NewVector of x at word)) (sym (tree.rolls-NewVector of x at word))
     (λ needed env r. ties.new_vector (alone env x _ h r))

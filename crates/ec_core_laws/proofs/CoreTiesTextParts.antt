@@ -15,7 +15,7 @@ use Rattle.ec_ast.specs.declared.Member.TheVariants as member
 use Rattle.ec_ast.specs.declared.Name.{Name}
 use Rattle.ec_ast.specs.declared.ObjectConstructor.{roll-ObjectConstructor}
 use Rattle.ec_ast.specs.declared.Operation.{roll-Operation}
-use Rattle.ec_ast.specs.declared.ProcessSection.{ProcessSection, roll-ProcessSection}
+use Rattle.ec_ast.specs.declared.Section.{Section, roll-Section}
 use Rattle.ec_ast.specs.declared.Span.{Span}
 use Rattle.ec_ast.specs.declared.Statement.{Statement, roll-Statement}
 use Rattle.ec_ast.specs.declared.Statement.TheVariants as statement
@@ -27,7 +27,7 @@ use Rattle.ec_core_laws.specs.Targets.{ends_in_index, is_target, is_index}
 use Rattle.ec_core_laws.specs.Targets.{within_expression, within_link, within_member, within_statement, within_body}
 use Rattle.ec_parser.specs.Chains.{or_of, and_of, sum_of, term_of, postfix_of}
 use Rattle.ec_ast.specs.Kinds.{ExpressionLayer, LinkLayer, MemberLayer, StatementLayer, AddendLayer, ArmLayer}
-use Rattle.ec_ast.specs.Kinds.{BlockLayer, BodyLayer, FactorLayer, ObjectLayer, OperationLayer, ProcessLayer}
+use Rattle.ec_ast.specs.Kinds.{BlockLayer, BodyLayer, FactorLayer, ObjectLayer, OperationLayer, SectionLayer}
 use Rattle.ec_ast.specs.Layers as layers
 
 -- ---- one layer of each kind of part: a variant, by the equation that it is rolled of its layer, and a struct
@@ -78,8 +78,8 @@ pub of_operation : (y : OperationLayer) → AreTargets (said.block y.block) →
     AreTargets (said.operation (roll-Operation y))
 of_operation y h = subst AreTargets (sym (rolled.operation y)) h
 
-pub of_process : (y : ProcessLayer) → AreTargets (said.block y.block) →
-    AreTargets (said.process (roll-ProcessSection y))
+pub of_process : (y : SectionLayer) → AreTargets (said.block y.block) →
+    AreTargets (said.process (roll-Section y))
 of_process y h = subst AreTargets (sym (rolled.process y)) h
 
 -- ---- what is a target
@@ -167,7 +167,7 @@ of_variable is_attached name of (Some x) h =
     of_member (Member-F.Member::Variable is_attached name of (Some x))
     (member.rolls-Variable is_attached name of (Some x)) h
 
-pub of_members : (xs : List Member) (initially : Option Block) (process : Option ProcessSection) →
+pub of_members : (xs : List Member) (initially : Option Block) (process : Option Section) →
     AreTargets
     (joined (map said.member xs)
     ++ (if_there (option_map said.block initially) ++ if_there (option_map said.process process))) →

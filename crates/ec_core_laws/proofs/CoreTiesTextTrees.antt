@@ -12,7 +12,7 @@ use Rattle.ec_ast.specs.declared.Link.TheVariants as link
 use Rattle.ec_ast.specs.declared.Member.{Member}
 use Rattle.ec_ast.specs.declared.Member.TheVariants as m
 use Rattle.ec_ast.specs.declared.ObjectConstructor.{ObjectConstructor}
-use Rattle.ec_ast.specs.declared.ProcessSection.{ProcessSection}
+use Rattle.ec_ast.specs.declared.Section.{Section}
 use Rattle.ec_ast.specs.declared.Statement.{Statement}
 use Rattle.ec_ast.specs.declared.Statement.TheVariants as s
 use Rattle.ec_base.specs.Stack.{top_of}
@@ -77,7 +77,7 @@ mutual
   primary (IsPrimary.parenthesised e h f) = of_expression _ (form.rolls-Parenthesised _ _) (expr h)
   primary (IsPrimary.object h) = of_expression _ (form.rolls-Constructor _) (object h)
   primary (IsPrimary.node_at e f g i h j) = of_expression _ (form.rolls-NodeAt _ _ _) (expr h)
-  primary (IsPrimary.node_count e f g) = of_expression _ (form.rolls-NodeCount _) none
+  primary (IsPrimary.node_count e f g) = of_expression _ (form.rolls-NodeCount _ _) none
   primary (IsPrimary.vector e f g i of j k l n h o) = of_expression _ (form.rolls-NewVector _ _ _ _) (expr h)
 
   postfix : {ts us : List Token} {x : Expression} {last : Ending} → IsPostfix ts us x last →
@@ -205,7 +205,7 @@ mutual
   initially IsInitially.no_initially = none
   initially (IsInitially.initially e h f g) = of_block _ (block h)
 
-  process : {ts us : List Token} {x : Option ProcessSection} → IsProcess ts us x →
+  process : {ts us : List Token} {x : Option Section} → IsProcess ts us x →
       AreTargets (if_there (option_map said.process x))
   process IsProcess.no_process = none
   process (IsProcess.process e h f g) = of_process _ (of_block _ (block h))

@@ -13,8 +13,8 @@ use Rattle.ec_ast.specs.declared.Factor.{Factor, roll-Factor, out-Factor, out-ro
 use Rattle.ec_ast.specs.declared.ObjectConstructor.{ObjectConstructor, roll-ObjectConstructor}
 use Rattle.ec_ast.specs.declared.ObjectConstructor.{out-ObjectConstructor, out-roll-ObjectConstructor}
 use Rattle.ec_ast.specs.declared.Operation.{Operation, roll-Operation, out-Operation, out-roll-Operation}
-use Rattle.ec_ast.specs.declared.ProcessSection.{ProcessSection, roll-ProcessSection}
-use Rattle.ec_ast.specs.declared.ProcessSection.{out-ProcessSection, out-roll-ProcessSection}
+use Rattle.ec_ast.specs.declared.Section.{Section, roll-Section}
+use Rattle.ec_ast.specs.declared.Section.{out-Section, out-roll-Section}
 use Rattle.ec_ast.specs.declared.Expression.TheOpen.{Expression-F, Link-F, Member-F, Statement-F}
 use Rattle.ec_check.proofs.Every.{Every, Where}
 use Rattle.ec_core_laws.proofs.AllTargets.{AreTargets, first_target, later_targets, left_targets, right_targets}
@@ -23,11 +23,11 @@ use Rattle.ec_core_laws.specs.Targets.{Targets, Part, joined, all_within}
 use Rattle.ec_core_laws.specs.Targets.{within_expression, within_link, within_member, within_statement, within_body}
 use Rattle.ec_ast.proofs.Claims.{Claims, Passes, Held, trees, expression_holds, body_holds}
 use Rattle.ec_ast.proofs.Claims.{ExpressionWith, LinkWith, MemberWith, StatementWith, AddendWith, ArmWith}
-use Rattle.ec_ast.proofs.Claims.{BlockWith, BodyWith, FactorWith, ObjectWith, OperationWith, ProcessWith}
+use Rattle.ec_ast.proofs.Claims.{BlockWith, BodyWith, FactorWith, ObjectWith, OperationWith, SectionWith}
 use Rattle.ec_ast.proofs.Claims.{bare_expression, bare_link, bare_member, bare_statement, bare_addend, bare_arm}
-use Rattle.ec_ast.proofs.Claims.{bare_block, bare_body, bare_factor, bare_object, bare_operation, bare_process}
+use Rattle.ec_ast.proofs.Claims.{bare_block, bare_body, bare_factor, bare_object, bare_operation, bare_section}
 use Rattle.ec_ast.specs.Kinds.{ExpressionLayer, LinkLayer, MemberLayer, StatementLayer, AddendLayer, ArmLayer}
-use Rattle.ec_ast.specs.Kinds.{BlockLayer, BodyLayer, FactorLayer, ObjectLayer, OperationLayer, ProcessLayer}
+use Rattle.ec_ast.specs.Kinds.{BlockLayer, BodyLayer, FactorLayer, ObjectLayer, OperationLayer, SectionLayer}
 use Rattle.ec_ast.specs.Layers as layers
 
 -- besides, an assignment has a target
@@ -75,8 +75,8 @@ module _ (P : Expression → Type 0) (S : Statement → Type 0) (B : Block → T
   abbrev pub TreeArmHas : Arm → Type 0
   TreeArmHas x = ArmLayerHas (out-Arm x)
 
-  abbrev pub TreeProcessHas : ProcessSection → Type 0
-  TreeProcessHas x = B (out-ProcessSection x).block
+  abbrev pub TreeProcessHas : Section → Type 0
+  TreeProcessHas x = B (out-Section x).block
 
   abbrev pub TreeOperationHas : Operation → Type 0
   TreeOperationHas x = B (out-Operation x).block
@@ -110,7 +110,7 @@ module _ (P : Expression → Type 0) (S : Statement → Type 0) (B : Block → T
   ExpressionHas (Expression-F.Parenthesised x at) = P x
   ExpressionHas (Expression-F.Constructor o) = TreeObjectHas o
   ExpressionHas (Expression-F.NodeAt x at word) = P x
-  ExpressionHas (Expression-F.NodeCount at) = Unit {0}
+  ExpressionHas (Expression-F.NodeCount at word) = Unit {0}
   ExpressionHas (Expression-F.NewVector of x at word) = P x
   ExpressionHas (Expression-F.Postfix x links) = P x × Every TreeLinkHas links
   ExpressionHas (Expression-F.Negative x at) = P x
@@ -152,7 +152,7 @@ module _ (P : Expression → Type 0) (S : Statement → Type 0) (B : Block → T
   abbrev MemberClaim : Member → Type 0
   MemberClaim x = AreTargets (said.member x) → TreeMemberHas x
 
-  abbrev ProcessClaim : ProcessSection → Type 0
+  abbrev ProcessClaim : Section → Type 0
   ProcessClaim x = AreTargets (said.process x) → TreeProcessHas x
 
   abbrev claims : Claims
@@ -168,7 +168,7 @@ module _ (P : Expression → Type 0) (S : Statement → Type 0) (B : Block → T
     factor = λ x. AreTargets (said.factor x) → TreeFactorHas x;
     object = λ x. AreTargets (said.object x) → TreeObjectHas x;
     operation = λ x. AreTargets (said.operation x) → TreeOperationHas x;
-    process = ProcessClaim;
+    section = ProcessClaim;
   }
 
   -- ---- the induction, by what a layer has
@@ -213,7 +213,7 @@ module _ (P : Expression → Type 0) (S : Statement → Type 0) (B : Block → T
     parts_are (Expression-F.Parenthesised x at) h = x.1 h
     parts_are (Expression-F.Constructor o) h = o.1 h
     parts_are (Expression-F.NodeAt x at word) h = x.1 h
-    parts_are (Expression-F.NodeCount at) h = tt
+    parts_are (Expression-F.NodeCount at word) h = tt
     parts_are (Expression-F.NewVector of x at word) h = x.1 h
     parts_are (Expression-F.Postfix x links) h = one_within said.link TreeLinkHas x links h
     parts_are (Expression-F.Negative x at) h = x.1 h
@@ -321,10 +321,10 @@ module _ (P : Expression → Type 0) (S : Statement → Type 0) (B : Block → T
         subst (λ (z : OperationLayer). B z.block) (sym (out-roll-Operation (bare_operation claims y)))
         (y.block.1 (subst AreTargets (rolled.operation (bare_operation claims y)) h))
 
-    process_at : (y : ProcessWith claims) → claims.process (roll-ProcessSection (bare_process claims y))
+    process_at : (y : SectionWith claims) → claims.process (roll-Section (bare_section claims y))
     process_at y h =
-        subst (λ (z : ProcessLayer). B z.block) (sym (out-roll-ProcessSection (bare_process claims y)))
-        (y.block.1 (subst AreTargets (rolled.process (bare_process claims y)) h))
+        subst (λ (z : SectionLayer). B z.block) (sym (out-roll-Section (bare_section claims y)))
+        (y.block.1 (subst AreTargets (rolled.process (bare_section claims y)) h))
 
     abbrev body_layer : List (Held MemberClaim) → Option (Held BlockClaim) → Option (Held ProcessClaim) →
         BodyWith claims
@@ -379,7 +379,7 @@ module _ (P : Expression → Type 0) (S : Statement → Type 0) (B : Block → T
       factor = factor_at;
       object = object_at;
       operation = operation_at;
-      process = process_at;
+      section = process_at;
     }
 
     pub part_has : (x : Expression) → AreTargets (said.expression x).within → P x

@@ -10,12 +10,12 @@ use Rattle.ec_ast.specs.declared.Body.{Body}
 use Rattle.ec_ast.specs.declared.Factor.{Factor}
 use Rattle.ec_ast.specs.declared.ObjectConstructor.{ObjectConstructor}
 use Rattle.ec_ast.specs.declared.Operation.{Operation}
-use Rattle.ec_ast.specs.declared.ProcessSection.{ProcessSection}
+use Rattle.ec_ast.specs.declared.Section.{Section}
 use Rattle.ec_places.proofs.DeclaredRolled.{in_operation}
 use Rattle.ec_core_laws.proofs.CountedKinds.{CountedPart, CountedLink, CountedMember, CountedStatement, CountedAddend, CountedArm}
 use Rattle.ec_core_laws.proofs.CountedKinds.{CountedPiece, CountedBody, CountedFactor, CountedObject, CountedOperation, CountedProcess}
 use Rattle.ec_check.specs.Tree.{part_of, link_of, member_of, statement_of, addend_of, arm_of, block_of, body_of, factor_of}
-use Rattle.ec_check.specs.Tree.{object_of, operation_of, process_of}
+use Rattle.ec_check.specs.Tree.{object_of, operation_of, section_of}
 use Rattle.ec_types.specs.Declarations.{in_expression, in_link, in_member, in_statement, in_addend, in_arm, in_block, in_body}
 use Rattle.ec_types.specs.Declarations.{in_factor, in_constructor, in_process}
 use Rattle.ec_ast.proofs.Claims.{Claims}
@@ -55,8 +55,8 @@ IsCountedObject x = CountedObject (object_of x) (in_constructor x)
 abbrev pub IsCountedOperation : Operation → Type 0
 IsCountedOperation x = CountedOperation (operation_of x) (in_operation x)
 
-abbrev pub IsCountedProcess : ProcessSection → Type 0
-IsCountedProcess x = CountedProcess (process_of x) (in_process x)
+abbrev pub IsCountedProcess : Section → Type 0
+IsCountedProcess x = CountedProcess (section_of x) (in_process x)
 
 -- what is claimed of a part of each kind
 abbrev pub counted : Claims
@@ -72,5 +72,5 @@ counted = record {
   factor = IsCountedFactor;
   object = IsCountedObject;
   operation = IsCountedOperation;
-  process = IsCountedProcess;
+  section = IsCountedProcess;
 }

@@ -7,9 +7,9 @@ use Rattle.ec_check.proofs.Every.{none_left, none_right, either}
 use Rattle.ec_check.proofs.NumberedKinds.{faults_in_all, all_made_both, faults_both}
 use Rattle.ec_check.proofs.NumberedParts.{none_both}
 use Rattle.ec_check.proofs.RangedChains.{chain_faultless}
-use Rattle.ec_check.specs.Parts.{both_made, Part, Piece, StatementPart, LinkPart, FactorPart, AddendPart, ArmPart, ProcessPart}
+use Rattle.ec_check.specs.Parts.{both_made, Part, Piece, StatementPart, LinkPart, FactorPart, AddendPart, ArmPart, SectionPart}
 use Rattle.ec_check.specs.Parts.{OperationPart, MemberPart, operation, BodyPart, ObjectPart, link_judged, factor_judged, addend_judged}
-use Rattle.ec_check.specs.Parts.{arm_judged, process_judged, member_judged, holder_judged}
+use Rattle.ec_check.specs.Parts.{arm_judged, section_judged, member_judged, holder_judged}
 use Rattle.ec_check.specs.Places.{Env}
 use Rattle.ec_check.specs.Resolving.{all_made, member_made, members_made, initially_made, process_made, holder_made, link_parts}
 use Rattle.ec_check.specs.Resolving.{parts_of_links, chain_parts, parts_of_chain}
@@ -55,9 +55,9 @@ CountedArm a d = (scope : Scope) →
     Counted scope.table (both_made (a.condition.made scope) (a.block.made scope)) d
     (piece_of_arm (arm_judged a) scope).faults
 
-abbrev pub CountedProcess : ProcessPart → Declarations → Type 0
+abbrev pub CountedProcess : SectionPart → Declarations → Type 0
 CountedProcess p d = (class : ℕ) (env : Env) (name : Name) →
-    Counted env.scope.table (process_made class env name (Some p)) d (process_finished env.scope (Some (process_judged p))).faults
+    Counted env.scope.table (process_made class env name (Some p)) d (process_finished env.scope (Some (section_judged p))).faults
 
 abbrev pub CountedMember : MemberPart → conform.MemberPart → Type 0
 CountedMember m d = (class : ℕ) (env : Env) (is_monitored : Bool) →
@@ -77,7 +77,7 @@ pub record CountedBody (b : BodyPart) (d : conform.BodyPart) : Type 0 where
       (finished_if scope (option_map (λ p. p.piece) b.initially)).faults
   pub process : (class : ℕ) (env : Env) (name : Name) →
       Counted env.scope.table (process_made class env name b.process) last
-      (process_finished env.scope (option_map process_judged b.process)).faults
+      (process_finished env.scope (option_map section_judged b.process)).faults
 
 abbrev pub CountedObject : ObjectPart → Declarations → Type 0
 CountedObject o d = (scope : Scope) →

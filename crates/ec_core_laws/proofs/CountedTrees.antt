@@ -11,7 +11,7 @@ use Rattle.ec_ast.specs.declared.Body.{Body, roll-Body}
 use Rattle.ec_ast.specs.declared.Factor.{roll-Factor}
 use Rattle.ec_ast.specs.declared.ObjectConstructor.{roll-ObjectConstructor}
 use Rattle.ec_ast.specs.declared.Operation.{roll-Operation}
-use Rattle.ec_ast.specs.declared.ProcessSection.{roll-ProcessSection}
+use Rattle.ec_ast.specs.declared.Section.{roll-Section}
 use Rattle.ec_ast.specs.declared.Expression.TheOpen.{Expression-F, Link-F, Member-F, Statement-F}
 use Rattle.ec_check.proofs.DeclaringParts.{EveryPair}
 use Rattle.ec_check.proofs.Every.{none_left, none_right}
@@ -20,14 +20,14 @@ use Rattle.ec_check.proofs.GoodTrees.{good_part}
 use Rattle.ec_check.proofs.NumberedParts.{none_both}
 use Rattle.ec_check.proofs.NumberedTrees.{two_pieces, piece_faults, pieces_both}
 use Rattle.ec_check.proofs.Rolled.{expression_mapped, link_mapped, member_mapped, statement_mapped, addend_mapped, arm_mapped, block_mapped}
-use Rattle.ec_check.proofs.Rolled.{body_mapped, factor_mapped, object_mapped, operation_mapped, process_mapped}
+use Rattle.ec_check.proofs.Rolled.{body_mapped, factor_mapped, object_mapped, operation_mapped, section_mapped}
 use Rattle.ec_check.proofs.Rolled.{part_rolled, link_rolled, member_rolled, statement_rolled, addend_rolled, arm_rolled, block_rolled}
-use Rattle.ec_check.proofs.Rolled.{body_rolled, factor_rolled, object_rolled, operation_rolled, process_rolled}
+use Rattle.ec_check.proofs.Rolled.{body_rolled, factor_rolled, object_rolled, operation_rolled, section_rolled}
 use Rattle.ec_check.specs.Layers.{expression_judged, statement_judged}
-use Rattle.ec_check.specs.Parts.{ArmPart, OperationPart, ProcessPart, StatementPart, both_made, arm_judged, operation_judged}
+use Rattle.ec_check.specs.Parts.{ArmPart, OperationPart, SectionPart, StatementPart, both_made, arm_judged, operation_judged}
 use Rattle.ec_check.specs.Resolving.{expression_made, statement_made, statements_made, arms_made, operation_core, process_operation}
 use Rattle.ec_check.specs.Tree.{expression_step, link_step, member_step, statement_step, addend_step, arm_step, block_step, body_step}
-use Rattle.ec_check.specs.Tree.{factor_step, object_step, operation_step, process_step}
+use Rattle.ec_check.specs.Tree.{factor_step, object_step, operation_step, section_step}
 use Rattle.ec_check.specs.Tree.{part_of, link_of, member_of, statement_of, addend_of, arm_of, block_of, factor_of}
 use Rattle.ec_types.specs.Declarations as conform
 use Rattle.ec_types.specs.Declarations.{both, joined, nothing, in_expression, in_link, in_member, in_statement, in_addend, in_arm}
@@ -59,9 +59,9 @@ use Rattle.ec_rules.specs.declared.StaticFault.{StaticFault}
 use Rattle.ec_types.specs.declared.scopes.scope.Scope.{Scope}
 use Rattle.ec_types.specs.Scopes.{declaring, in_a_loop, in_a_process}
 use Rattle.ec_ast.proofs.Claims.{Passes, Held, trees, ExpressionWith, LinkWith, MemberWith, StatementWith, AddendWith, ArmWith}
-use Rattle.ec_ast.proofs.Claims.{BlockWith, BodyWith, FactorWith, ObjectWith, OperationWith, ProcessWith, bare_expression}
+use Rattle.ec_ast.proofs.Claims.{BlockWith, BodyWith, FactorWith, ObjectWith, OperationWith, SectionWith, bare_expression}
 use Rattle.ec_ast.proofs.Claims.{bare_link, bare_member, bare_statement, bare_addend, bare_arm, bare_block, bare_body, bare_factor}
-use Rattle.ec_ast.proofs.Claims.{bare_object, bare_operation, bare_process, expression_holds, body_holds}
+use Rattle.ec_ast.proofs.Claims.{bare_object, bare_operation, bare_section, expression_holds, body_holds}
 
 -- ---- expressions
 
@@ -95,7 +95,7 @@ layer_counted (Expression-F.Parenthesised x at) needed scope =
     one_counted (λ e. none_left _ _ (none_left _ _ e)) (x.1 true scope)
 layer_counted (Expression-F.Constructor o) needed scope = o.1 scope
 layer_counted (Expression-F.NodeAt x at word) needed scope = one_counted (λ e. none_left _ _ (none_left _ _ e)) (x.1 true scope)
-layer_counted (Expression-F.NodeCount at) needed scope = nothing_counted
+layer_counted (Expression-F.NodeCount at word) needed scope = nothing_counted
 layer_counted (Expression-F.NewVector of x at word) needed scope =
     one_counted (λ e. none_left _ _ (none_left _ _ e)) (x.1 true scope)
 layer_counted (Expression-F.Postfix x links) needed scope =
@@ -341,19 +341,19 @@ operation_at y =
 -- ---- bodies
 
 -- made of a process section at its word
-process_is : (y : ProcessWith counted) →
-    CountedProcess (process_step (process_mapped (bare_process counted y)))
-    (conform.process_step (process_declared (bare_process counted y)))
+process_is : (y : SectionWith counted) →
+    CountedProcess (section_step (section_mapped (bare_section counted y)))
+    (conform.section_step (process_declared (bare_section counted y)))
 process_is y = λ class env name.
-    let p : ProcessPart = process_step (process_mapped (bare_process counted y)) in
+    let p : SectionPart = section_step (section_mapped (bare_section counted y)) in
     operation_counted (process_operation class env name p) p.at (λ e. none_left _ _ e)
     (λ e. none_right _ _ (none_right _ _ e)) (y.block.1 (in_a_process env.scope))
 
-process_at : (y : ProcessWith counted) → IsCountedProcess (roll-ProcessSection (bare_process counted y))
+process_at : (y : SectionWith counted) → IsCountedProcess (roll-Section (bare_section counted y))
 process_at y =
-    subst (λ x. CountedProcess x (in_process (roll-ProcessSection (bare_process counted y))))
-    (sym (process_rolled (bare_process counted y)))
-    (subst (CountedProcess (process_step (process_mapped (bare_process counted y)))) (sym (process_declares (bare_process counted y)))
+    subst (λ x. CountedProcess x (in_process (roll-Section (bare_section counted y))))
+    (sym (section_rolled (bare_section counted y)))
+    (subst (CountedProcess (section_step (section_mapped (bare_section counted y)))) (sym (process_declares (bare_section counted y)))
     (process_is y))
 
 abbrev body_layer : List (Held IsCountedMember) → Option (Held IsCountedBlock) → Option (Held IsCountedProcess) → BodyWith counted
@@ -433,7 +433,7 @@ passes = record {
   factor = factor_at;
   object = object_at;
   operation = operation_at;
-  process = process_at;
+  section = process_at;
 }
 
 pub counted_part : (x : Expression) → IsCountedPart x

@@ -162,7 +162,7 @@ called_fits None name arguments result h =
     (l.rolls-Invoke name.text arguments result name.at.from) (all_fit numbers_in arguments h)
 
 link_fits : (env : Env) (before : Receiver) (x : LinkPart) → LinkHas x → FitLink (link_core env before x)
-link_fits env before (call name arguments) h =
+link_fits env before (call name arguments marks) h =
     called_fits (builtin_of (type_of_receiver env.scope before) name) name (cores_of env arguments)
     (calls.result_of (callee env.scope before name)) (cores_fit env arguments h)
 link_fits env before (index number at) h =
@@ -229,7 +229,7 @@ core_fits (Expression-F.Constructor o) h g env =
     (e.rolls-Construct (number_of_holder env.scope o.holder) (map (place_of env) (captures_of env.scope o.holder))) tt
 core_fits (Expression-F.NodeAt x at word) h g env =
     fits (e.NodeAt (x.core env) word.from) (Form-F.NodeAt (x.core env) word.from) (e.rolls-NodeAt (x.core env) word.from) (h.1.0 env)
-core_fits (Expression-F.NodeCount at) h g env = fits e.NodeCount Form-F.NodeCount e.rolls-NodeCount tt
+core_fits (Expression-F.NodeCount at word) h g env = fits e.NodeCount Form-F.NodeCount e.rolls-NodeCount tt
 core_fits (Expression-F.NewVector of x at word) h g env =
     fits (e.NewVector (vector_of (written_in env.scope of)) (x.core env) word.from)
     (Form-F.NewVector (vector_of (written_in env.scope of)) (x.core env) word.from)

@@ -11,16 +11,16 @@ use Rattle.ec_ast.specs.declared.Link.{Link, roll-Link}
 use Rattle.ec_ast.specs.declared.Member.{Member, roll-Member}
 use Rattle.ec_ast.specs.declared.ObjectConstructor.{ObjectConstructor, roll-ObjectConstructor}
 use Rattle.ec_ast.specs.declared.Operation.{Operation, roll-Operation}
-use Rattle.ec_ast.specs.declared.ProcessSection.{ProcessSection, roll-ProcessSection}
+use Rattle.ec_ast.specs.declared.Section.{Section, roll-Section}
 use Rattle.ec_ast.specs.declared.Statement.{Statement, roll-Statement}
 use Rattle.ec_check.proofs.Every.{Every, every_left, every_right}
 use Rattle.ec_check.proofs.Rolled.{expression_mapped, link_mapped, member_mapped, statement_mapped, block_mapped, body_mapped}
 use Rattle.ec_check.proofs.Rolled.{part_rolled, link_rolled, member_rolled, statement_rolled, addend_rolled, arm_rolled, block_rolled}
-use Rattle.ec_check.proofs.Rolled.{body_rolled, factor_rolled, object_rolled, operation_rolled, process_rolled}
-use Rattle.ec_check.specs.Parts.{AnExpression, AStatement, ABlock, OperationPart, ProcessPart}
+use Rattle.ec_check.proofs.Rolled.{body_rolled, factor_rolled, object_rolled, operation_rolled, section_rolled}
+use Rattle.ec_check.specs.Parts.{AnExpression, AStatement, ABlock, OperationPart, SectionPart}
 use Rattle.ec_check.specs.Tree.{expression_step, statement_step, block_step, link_step, member_step, body_step}
 use Rattle.ec_check.specs.Tree.{part_of, link_of, member_of, statement_of, addend_of, arm_of, block_of, body_of, factor_of}
-use Rattle.ec_check.specs.Tree.{object_of, operation_of, process_of}
+use Rattle.ec_check.specs.Tree.{object_of, operation_of, section_of}
 use Rattle.ec_core_laws.proofs.FittingExpressions.{AllFit, PartFits, StatementFits, PieceFits, PartHas, LinkHas, FactorHas, AddendHas}
 use Rattle.ec_core_laws.proofs.FittingExpressions.{ArmHas, PieceHas, MemberHas, BodyHas, ObjectHas, ExpressionHas, IsFitting, all_fit}
 use Rattle.ec_core_laws.proofs.FittingExpressions.{core_fits}
@@ -33,9 +33,9 @@ use Rattle.ec_core_laws.specs.TreeNumbers.{Numbers, joined, kinds, steps, Fits, 
 use Rattle.ec_core_laws.specs.TreeNumbers.{body_numbers, statement_numbers as numbers_of_statement}
 use Rattle.ec_rules.specs.Judging.{expression_part, statement_part}
 use Rattle.ec_ast.proofs.Claims.{Claims, Passes, Held, trees as bare_trees, ExpressionWith, LinkWith, MemberWith, StatementWith}
-use Rattle.ec_ast.proofs.Claims.{AddendWith, ArmWith, BlockWith, BodyWith, FactorWith, ObjectWith, OperationWith, ProcessWith}
+use Rattle.ec_ast.proofs.Claims.{AddendWith, ArmWith, BlockWith, BodyWith, FactorWith, ObjectWith, OperationWith, SectionWith}
 use Rattle.ec_ast.proofs.Claims.{bare_expression, bare_link, bare_member, bare_statement, bare_addend, bare_arm, bare_block}
-use Rattle.ec_ast.proofs.Claims.{bare_body, bare_factor, bare_object, bare_operation, bare_process, expression_holds, body_holds}
+use Rattle.ec_ast.proofs.Claims.{bare_body, bare_factor, bare_object, bare_operation, bare_section, expression_holds, body_holds}
 use Rattle.ec_ast.proofs.Rolled.{Rolled, folded, folds_are_rolled}
 use Rattle.ec_ast.specs.Kinds.{tree}
 use Rattle.ec_ast.specs.Layers as layers
@@ -72,7 +72,7 @@ block_has b h = (
 abbrev OperationHas : OperationPart → Type 0
 OperationHas = trees.OperationHas PartFits StatementFits PieceFits
 
-abbrev ProcessHas : ProcessPart → Type 0
+abbrev ProcessHas : SectionPart → Type 0
 ProcessHas = trees.ProcessHas PartFits StatementFits PieceFits
 
 abbrev pub FittingExpression : Expression → Type 0
@@ -108,8 +108,8 @@ FittingObject x = AllFit (numbers.object x) → ObjectHas (object_of x)
 abbrev FittingOperation : Operation → Type 0
 FittingOperation x = AllFit (numbers.operation x) → OperationHas (operation_of x)
 
-abbrev FittingProcess : ProcessSection → Type 0
-FittingProcess x = AllFit (numbers.process x) → ProcessHas (process_of x)
+abbrev FittingProcess : Section → Type 0
+FittingProcess x = AllFit (numbers.process x) → ProcessHas (section_of x)
 
 abbrev fitting : Claims
 fitting = record {
@@ -124,7 +124,7 @@ fitting = record {
   factor = FittingFactor;
   object = FittingObject;
   operation = FittingOperation;
-  process = FittingProcess;
+  section = FittingProcess;
 }
 
 -- ---- lists of numbers
@@ -171,7 +171,7 @@ parts_are (Expression-F.Expression::Variable name) h = tt
 parts_are (Expression-F.Parenthesised x at) h = x.1 h
 parts_are (Expression-F.Constructor o) h = o.1 h
 parts_are (Expression-F.NodeAt x at word) h = x.1 h
-parts_are (Expression-F.NodeCount at) h = tt
+parts_are (Expression-F.NodeCount at word) h = tt
 parts_are (Expression-F.NewVector of x at word) h = x.1 h
 parts_are (Expression-F.Postfix x links) h = one_and link_of numbers.link LinkHas x links h
 parts_are (Expression-F.Negative x at) h = x.1 h
@@ -194,7 +194,7 @@ number_is (Expression-F.Expression::Variable name) h = tt
 number_is (Expression-F.Parenthesised x at) h = tt
 number_is (Expression-F.Constructor o) h = tt
 number_is (Expression-F.NodeAt x at word) h = tt
-number_is (Expression-F.NodeCount at) h = tt
+number_is (Expression-F.NodeCount at word) h = tt
 number_is (Expression-F.NewVector of x at word) h = tt
 number_is (Expression-F.Postfix x links) h = tt
 number_is (Expression-F.Negative x at) h = tt
@@ -305,10 +305,10 @@ operation_at y h =
     subst OperationHas (sym (operation_rolled (bare_operation fitting y)))
     (y.block.1 (subst AllFit (rolled.operation (bare_operation fitting y)) h))
 
-process_at : (y : ProcessWith fitting) → FittingProcess (roll-ProcessSection (bare_process fitting y))
+process_at : (y : SectionWith fitting) → FittingProcess (roll-Section (bare_section fitting y))
 process_at y h =
-    subst ProcessHas (sym (process_rolled (bare_process fitting y)))
-    (y.block.1 (subst AllFit (rolled.process (bare_process fitting y)) h))
+    subst ProcessHas (sym (section_rolled (bare_section fitting y)))
+    (y.block.1 (subst AllFit (rolled.process (bare_section fitting y)) h))
 
 abbrev body_layer : List (Held FittingMember) → Option (Held FittingBlock) → Option (Held FittingProcess) → BodyWith fitting
 body_layer ms i p = record { members = ms; initially = i; process = p }
@@ -361,7 +361,7 @@ passes = record {
   factor = factor_at;
   object = object_at;
   operation = operation_at;
-  process = process_at;
+  section = process_at;
 }
 
 pub fitting_part : (x : Expression) → FittingExpression x

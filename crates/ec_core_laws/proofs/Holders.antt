@@ -11,7 +11,7 @@ use Rattle.ec_ast.specs.declared.Member.TheVariants as tree_member
 use Rattle.ec_ast.specs.declared.Name.{Name}
 use Rattle.ec_ast.specs.declared.Operation.{Operation, roll-Operation, out-Operation, roll-out-Operation}
 use Rattle.ec_ast.specs.declared.Parameter.{Parameter}
-use Rattle.ec_ast.specs.declared.ProcessSection.{ProcessSection, roll-ProcessSection, out-ProcessSection, roll-out-ProcessSection}
+use Rattle.ec_ast.specs.declared.Section.{Section, roll-Section, out-Section, roll-out-Section}
 use Rattle.ec_ast.specs.declared.TypeName.{TypeName}
 use Rattle.ec_base.proofs.Stacks.{top_of-push}
 use Rattle.ec_check.proofs.Equations.{body_step_of, operation_step_of, process_step_of}
@@ -22,14 +22,14 @@ use Rattle.ec_check.proofs.KnownTypes.{test_holds}
 use Rattle.ec_check.proofs.ReachedNames.{each_reached}
 use Rattle.ec_check.proofs.Rolled.{MemberLayer, member_mapped, member_rolled}
 use Rattle.ec_check.proofs.SuitingBodies.{all_members}
-use Rattle.ec_check.specs.Parts.{Piece, ProcessPart, OperationPart, MemberPart, variable, constant, condition, operation, BodyPart, Holder}
-use Rattle.ec_check.specs.Parts.{member_judged, operation_judged, process_judged, holder_judged, Made}
+use Rattle.ec_check.specs.Parts.{Piece, SectionPart, OperationPart, MemberPart, variable, constant, condition, operation, BodyPart, Holder}
+use Rattle.ec_check.specs.Parts.{member_judged, operation_judged, section_judged, holder_judged, Made}
 use Rattle.ec_check.specs.Places.{Env, fields_of, names_of, type_or}
 use Rattle.ec_check.specs.Resolving.{env_in, env_of_body, env_of_operation, field_of, field_stored, conditions_in, members_made}
 use Rattle.ec_check.specs.Resolving.{heading_entries, heading_types, types_written, result_written, numbers_from, initially_core}
 use Rattle.ec_check.specs.Resolving.{initially_made, locals_of_block}
 use Rattle.ec_check.specs.Resolving.{process_made, number_of_holder, captures_of, holder_made}
-use Rattle.ec_check.specs.Tree.{part_of, block_of, body_of, body_step, member_of, member_step, operation_of, operation_step, process_of}
+use Rattle.ec_check.specs.Tree.{part_of, block_of, body_of, body_step, member_of, member_step, operation_of, operation_step, section_of}
 use Rattle.ec_types.specs.declared.conform.static_type.StaticType.{StaticType}
 use Rattle.ec_core.specs.declared.Block.{roll-out-Block as roll-out-core-block}
 use Rattle.ec_core.specs.declared.Field.{Field}
@@ -196,7 +196,7 @@ step_of o = operation_step (record {
 abbrev pub MemberTied : Member → Type 0
 MemberTied = trees.TreeMemberHas PartTied StatementTied BlockTied
 
-abbrev pub ProcessTied : ProcessSection → Type 0
+abbrev pub ProcessTied : Section → Type 0
 ProcessTied = trees.TreeProcessHas PartTied StatementTied BlockTied
 
 abbrev pub BodyTied : Body → Type 0
@@ -316,23 +316,23 @@ initially_tied at (Some x) h r =
 process_fits : (scope : Scope) (captures : List Text) → Fit (env_in scope captures) → Fit (env_in (in_a_process scope) captures)
 process_fits scope captures f = subst (λ ls. length ls ≤ 0) (sym (locals_changed at_process (λ o. refl) scope)) f
 
-abbrev SectionTied : ℕ → Scope → List Text → Name → ProcessSection → ProcessPart → Type 0
+abbrev SectionTied : ℕ → Scope → List Text → Name → Section → SectionPart → Type 0
 SectionTied class scope captures name x p =
-    Ready (env_in scope captures) (process_finished scope (Some (process_judged p))).uses
-    (process_finished scope (Some (process_judged p))).faults →
+    Ready (env_in scope captures) (process_finished scope (Some (section_judged p))).uses
+    (process_finished scope (Some (section_judged p))).faults →
     IsProcess class (env_in scope captures) name (Some x) (process_made class (env_in scope captures) name (Some p))
 
-process_tied : (class : ℕ) (scope : Scope) (captures : List Text) (name : Name) (x : Option ProcessSection) → Fit (env_in scope captures) →
+process_tied : (class : ℕ) (scope : Scope) (captures : List Text) (name : Name) (x : Option Section) → Fit (env_in scope captures) →
     Where ProcessTied x →
-    Ready (env_in scope captures) (process_finished scope (option_map process_judged (option_map process_of x))).uses
-    (process_finished scope (option_map process_judged (option_map process_of x))).faults →
-    IsProcess class (env_in scope captures) name x (process_made class (env_in scope captures) name (option_map process_of x))
+    Ready (env_in scope captures) (process_finished scope (option_map section_judged (option_map section_of x))).uses
+    (process_finished scope (option_map section_judged (option_map section_of x))).faults →
+    IsProcess class (env_in scope captures) name x (process_made class (env_in scope captures) name (option_map section_of x))
 process_tied class scope captures name None f h r = ties.no_process
 process_tied class scope captures name (Some x) f h r =
-    subst (λ y. SectionTied class scope captures name y (process_of x)) (roll-out-ProcessSection x)
-    (subst (SectionTied class scope captures name (roll-ProcessSection (out-ProcessSection x))) (sym (process_step_of x))
+    subst (λ y. SectionTied class scope captures name y (section_of x)) (roll-out-Section x)
+    (subst (SectionTied class scope captures name (roll-Section (out-Section x))) (sym (process_step_of x))
     (λ q.
-    ties.process (out-ProcessSection x).at
+    ties.process (out-Section x).at
     (h (env_in (in_a_process scope) captures)
     (record { fit = process_fits scope captures f; reach = q.reach; faultless = none_left _ _ q.faultless })))) r
 
@@ -348,8 +348,8 @@ BodyMakes scope name is_monitored parameters end_name x b =
     TiedHolder scope (holder_judged (holder_with name is_monitored parameters end_name b)) x
     (holder_made scope (holder_with name is_monitored parameters end_name b))
 
-abbrev body_with : List Member → Option Block → Option ProcessSection → BodyPart
-body_with ms i p = body_step (record { members = map member_of ms; initially = option_map block_of i; process = option_map process_of p })
+abbrev body_with : List Member → Option Block → Option Section → BodyPart
+body_with ms i p = body_step (record { members = map member_of ms; initially = option_map block_of i; process = option_map section_of p })
 
 no_doubled_in : (scope : Scope) (h : judged.Holder) → faults_in_holder scope h ≡ [] → doubled_in_body h ≡ []
 no_doubled_in scope h e =
@@ -361,7 +361,7 @@ no_doubled_in scope h e =
     (none_right (body_finished (scope_of scope h) h).faults (heading_faults scope h ++ many_fields (captured (uses_within scope h)) h) e))))
 
 body_makes : (scope : Scope) (name : Name) (is_monitored : Bool) (parameters : List Parameter) (end_name : Name) (ms : List Member)
-    (i : Option Block) (p : Option ProcessSection) → Every MemberTied ms → Where BlockTied i → Where ProcessTied p →
+    (i : Option Block) (p : Option Section) → Every MemberTied ms → Where BlockTied i → Where ProcessTied p →
     BodyMakes scope name is_monitored parameters end_name (roll-Body (record { members = ms; initially = i; process = p }))
     (body_with ms i p)
 body_makes scope name is_monitored parameters end_name ms i p h k g e =
@@ -371,7 +371,7 @@ body_makes scope name is_monitored parameters end_name ms i p h k g e =
     let all : Ready (env_of_body scope around)
     (((members_finished inner is_monitored (map member_judged (map member_of ms))).uses
     ++ (finished_if inner (option_map (λ p. p.piece) (option_map block_of i))).uses)
-    ++ (process_finished inner (option_map process_judged (option_map process_of p))).uses) _ =
+    ++ (process_finished inner (option_map section_judged (option_map section_of p))).uses) _ =
     record { fit = fit; reach = each_reached (uses_within scope (holder_judged around)); faultless = none_left _ _ e } in
     let first : Ready (env_of_body scope around)
     ((members_finished inner is_monitored (map member_judged (map member_of ms))).uses

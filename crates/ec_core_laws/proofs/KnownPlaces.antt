@@ -19,7 +19,7 @@ use Rattle.ec_check.proofs.SoundForms.{constant_has_type}
 use Rattle.ec_check.proofs.SoundParts.{SoundMember}
 use Rattle.ec_check.proofs.SoundHolders.{sound_in_operation}
 use Rattle.ec_check.proofs.SoundScopes.{SoundScope, TypedFound, found_is_typed, sound_in_a_process}
-use Rattle.ec_check.specs.Parts.{Made, OperationPart, ProcessPart, MemberPart, variable, constant, condition, operation, Holder}
+use Rattle.ec_check.specs.Parts.{Made, OperationPart, SectionPart, MemberPart, variable, constant, condition, operation, Holder}
 use Rattle.ec_check.specs.Parts.{member_judged, operation_judged, holder_judged}
 use Rattle.ec_check.specs.Places.{Env, type_found}
 use Rattle.ec_check.specs.Program.{constant_core, constants_core, core_of, outermost}
@@ -36,7 +36,7 @@ use Rattle.ec_core.specs.declared.Field.{Field}
 use Rattle.ec_core_laws.proofs.Bodies.{block_faultless, section_faultless, members_faultless, initially_faultless}
 use Rattle.ec_core_laws.proofs.KnownLocals.{IsTyped, type_there, piece_typed, initially_typed}
 use Rattle.ec_core_laws.proofs.Operations.{Known, OperationFaultless, ProcessFaultless, Steps, body_is_sound, sound_in, scope_in}
-use Rattle.ec_core_laws.proofs.Operations.{first_of, named_of, process_of, process_with}
+use Rattle.ec_core_laws.proofs.Operations.{first_of, named_of, section_of, process_with}
 use Rattle.ec_core_laws.proofs.Programs.{Faultless, constants_faultless, made_holds}
 use Rattle.ec_core_laws.proofs.Trees.{IsPiece}
 use Rattle.ec_core_laws.specs.KnownPlaces.{IsKnown, KnowsVariables, KnowsClass, KnowsItsPlaces}
@@ -103,8 +103,8 @@ first_typed : {classes : List Class} (scope : Scope) (h : Holder) → Known clas
 first_typed scope h k =
     initially_typed h.body k.tree (scope_in scope h) (sound_in scope h k) (initially_faultless scope h k)
 
-section_typed : {classes : List Class} (scope : Scope) (h : Holder) → Known classes scope h → (p : ProcessPart) →
-    IsPiece p.block → ProcessFaultless scope h p → Every IsTyped (process_of scope h p).variables
+section_typed : {classes : List Class} (scope : Scope) (h : Holder) → Known classes scope h → (p : SectionPart) →
+    IsPiece p.block → ProcessFaultless scope h p → Every IsTyped (section_of scope h p).variables
 section_typed scope h k p tree e =
     piece_typed p.block tree (in_a_process (scope_in scope h)) (sound_in_a_process (scope_in scope h) (sound_in scope h k))
     (section_faultless scope h p e)
@@ -204,7 +204,7 @@ known_steps classes = record {
     (
       all_known (first_of scope h).variables (first_typed scope h k),
       every_joined KnowsVariables m.operations (process_with scope h p n).operations made.0
-          (all_known (process_of scope h p).variables (section_typed scope h k p tree e), more.0),
+          (all_known (section_of scope h p).variables (section_typed scope h k p tree e), more.0),
     ),
     (class_knows scope h k, every_joined KnowsClass m.classes n.classes made.1 more.1),
   );

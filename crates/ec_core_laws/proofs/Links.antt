@@ -204,18 +204,18 @@ module _ (env : Env) (head : Span) (needed : Bool) (before : Receiver) (xs : Lis
       FirstLink env head needed before xs (roll-Link y) (link_step (link_mapped y))
   link_tied (Link-F.Call name arguments) h r =
       let parts : List Part = map part_of arguments in
-      subst (AreLinks env (roll-Link (Link-F.Call name arguments) ∷ xs) (links_core env before (call name parts ∷ map link_of xs)))
+      subst (AreLinks env (roll-Link (Link-F.Call name arguments) ∷ xs) (links_core env before (call name parts marks ∷ map link_of xs)))
       (parts_joined env.scope parts (parts_of_links (map link_of xs)))
       (subst
       (λ y.
-      AreLinks env (y ∷ xs) (links_core env before (call name parts ∷ map link_of xs))
+      AreLinks env (y ∷ xs) (links_core env before (call name parts marks ∷ map link_of xs))
       (both_made (all_made env.scope parts) (all_made env.scope (parts_of_links (map link_of xs)))))
       (sym (tree_link.rolls-Call name arguments))
       (call_tied env name arguments xs (cores_of env parts) _ (result_of (callee env.scope before name)) _ _
       (builtin_of (type_of_receiver env.scope before) name)
       (builtin_named env.scope before name (not_there _ _ name.at (none_left _ _ (none_right _ _ (none_left _ _ r.faultless)))))
-      (parts_tied arguments h env (first_link env head needed before (call name parts) (map link_of xs) r))
-      (later _ (later_links env head needed before (call name parts) (map link_of xs) r))))
+      (parts_tied arguments h env (first_link env head needed before (call name parts marks) (map link_of xs) r))
+      (later _ (later_links env head needed before (call name parts marks) (map link_of xs) r))))
   link_tied (Link-F.Index x at) h r =
       subst
       (λ y.

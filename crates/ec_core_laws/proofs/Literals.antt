@@ -50,7 +50,7 @@ use Rattle.ec_core.specs.declared.Statement.TheOpen.{Statement-F as Core-F}
 use Rattle.ec_core.specs.declared.Statement.TheVariants as s
 use Rattle.ec_core_laws.proofs.Bodies.{block_faultless, section_faultless, members_faultless, initially_faultless}
 use Rattle.ec_core_laws.proofs.Expressions.{expression_is, link_is, addend_is, factor_is, out_is, link_out_is}
-use Rattle.ec_core_laws.proofs.Operations.{Known, scope_in, first_of, named_of, process_of}
+use Rattle.ec_core_laws.proofs.Operations.{Known, scope_in, first_of, named_of, section_of}
 use Rattle.ec_core_laws.proofs.Programs.{Faultless, constants_faultless, each_operation}
 use Rattle.ec_core_laws.proofs.Statements.{statement_is, arm_is, block_is, statements_are}
 use Rattle.ec_core_laws.proofs.Trees as trees
@@ -209,7 +209,7 @@ called_short None name arguments result h =
 
 link_short : (env : Env) (before : Receiver) (x : LinkPart) → LinkHas x → each (faults_in env.scope) (in_parts (link_parts x)) ≡ [] →
     ShortLink (link_core env before x)
-link_short env before (call name arguments) h f =
+link_short env before (call name arguments marks) h f =
     called_short (builtin_of (type_of_receiver env.scope before) name) name (cores_of env arguments)
     (calls.result_of (callee env.scope before name)) (cores_short env arguments h f)
 link_short env before (index number at) h f =
@@ -283,7 +283,7 @@ layer_short (Expression-F.Constructor o) h needed env f =
 layer_short (Expression-F.NodeAt x at word) h needed env f =
     short (e.NodeAt (x.core env) word.from) (Form-F.NodeAt (x.core env) word.from) (e.rolls-NodeAt (x.core env) word.from)
     (h.1 true env (none_left _ _ (none_left _ _ f)))
-layer_short (Expression-F.NodeCount at) h needed env f = short e.NodeCount Form-F.NodeCount e.rolls-NodeCount tt
+layer_short (Expression-F.NodeCount at word) h needed env f = short e.NodeCount Form-F.NodeCount e.rolls-NodeCount tt
 layer_short (Expression-F.NewVector of x at word) h needed env f =
     short (e.NewVector (vector_of (written_in env.scope of)) (x.core env) word.from)
     (Form-F.NewVector (vector_of (written_in env.scope of)) (x.core env) word.from)
@@ -603,7 +603,7 @@ operations_short table program is none =
           (piece_short o.block tree (env_of_operation (env_of_body scope h) o) (block_faultless scope h o f));
       first = λ scope h known. all_of IsShort (texts_of_block (first_of scope h).block) (first_short scope h known);
       process = λ scope h known p tree f.
-          all_of IsShort (texts_of_block (process_of scope h p).block)
+          all_of IsShort (texts_of_block (section_of scope h p).block)
           (piece_short p.block tree (env_in (in_a_process (scope_in scope h)) (env_of_body scope h).captures)
           (section_faultless scope h p f));
     })

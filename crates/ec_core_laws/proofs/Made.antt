@@ -4,7 +4,7 @@ use Rattle.ec_ast.specs.declared.Expression.TheOpen.{Expression-F, Statement-F}
 use Rattle.ec_ast.specs.declared.Name.{Name}
 use Rattle.ec_check.proofs.Every.{Every, Where, every_joined}
 use Rattle.ec_check.specs.Parts.{MemberPart, variable, constant, condition, operation, Holder, AnExpression, AStatement, both_made}
-use Rattle.ec_check.specs.Parts.{Part, Piece, StatementPart, LinkPart, call, index, FactorPart, AddendPart, ArmPart, ProcessPart, Made}
+use Rattle.ec_check.specs.Parts.{Part, Piece, StatementPart, LinkPart, call, index, FactorPart, AddendPart, ArmPart, SectionPart, Made}
 use Rattle.ec_check.specs.Parts.{link_judged, operation_judged}
 use Rattle.ec_check.specs.Places.{Env, field_named}
 use Rattle.ec_check.specs.Resolving.{all_made, arms_made, at_start, body_made, chain_parts, env_of_body, env_of_operation, expression_made}
@@ -47,7 +47,7 @@ addend_values [] h = tt
 addend_values (a ∷ xs) h = (h.0, addend_values xs h.1)
 
 link_parts_have : (x : LinkPart) → LinkHas x → Every PartHas (link_parts x)
-link_parts_have (call name arguments) h = h
+link_parts_have (call name arguments marks) h = h
 link_parts_have (index number at) h = (h, tt)
 
 links_have : (xs : List LinkPart) → Every LinkHas xs → Every PartHas (parts_of_links xs)
@@ -117,10 +117,10 @@ block_if_fits : (scope : Scope) (b : Option Piece) → Where PieceHas b → Made
 block_if_fits scope None h = tt
 block_if_fits scope (Some b) h = h.1.1 scope
 
-abbrev ProcessHas : ProcessPart → Type 0
+abbrev ProcessHas : SectionPart → Type 0
 ProcessHas = trees.ProcessHas PartFits StatementFits PieceFits
 
-process_fits : (class : ℕ) (env : Env) (name : Name) (p : Option ProcessPart) → Where ProcessHas p →
+process_fits : (class : ℕ) (env : Env) (name : Name) (p : Option SectionPart) → Where ProcessHas p →
     MadeFits (process_made class env name p)
 process_fits class env name None h = tt
 process_fits class env name (Some p) h =
@@ -152,7 +152,7 @@ expression_made_fits (Expression-F.Expression::Variable name) h scope = tt
 expression_made_fits (Expression-F.Parenthesised x at) h scope = all_made_fit scope (x ∷ []) (h, tt)
 expression_made_fits (Expression-F.Constructor o) h scope = holder_fits scope o.holder h.1
 expression_made_fits (Expression-F.NodeAt x at word) h scope = all_made_fit scope (x ∷ []) (h, tt)
-expression_made_fits (Expression-F.NodeCount at) h scope = tt
+expression_made_fits (Expression-F.NodeCount at word) h scope = tt
 expression_made_fits (Expression-F.NewVector of x at word) h scope = all_made_fit scope (x ∷ []) (h, tt)
 expression_made_fits (Expression-F.Postfix x links) h scope =
     let before : Receiver = receiver scope x.part (map link_judged links) in

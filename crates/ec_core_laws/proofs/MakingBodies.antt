@@ -6,7 +6,7 @@ use Rattle.ec_check.proofs.Every.{Every, Where, every_joined}
 use Rattle.ec_check.proofs.NumbersRolled.{statement_has, block_rolled}
 use Rattle.ec_check.proofs.RangedParts.{each_joined}
 use Rattle.ec_check.specs.Numbers.{Kept, joined, in_expression, in_statement, in_block}
-use Rattle.ec_check.specs.Parts.{Piece, ProcessPart, MemberPart, variable, constant, condition, operation, BodyPart, Holder}
+use Rattle.ec_check.specs.Parts.{Piece, SectionPart, MemberPart, variable, constant, condition, operation, BodyPart, Holder}
 use Rattle.ec_check.specs.Parts.{Made, operation_judged}
 use Rattle.ec_check.specs.Places.{Env, field_named}
 use Rattle.ec_check.specs.Resolving.{class_core, env_in, env_of_body, env_of_operation, field_stored, holder_made}
@@ -78,10 +78,10 @@ initially_makes : (classes : List Class) (env : Env) (b : Option Piece) → Wher
 initially_makes classes env None h t = none_make
 initially_makes classes env (Some b) h t = same_make (statements_of (b.core env)) (h.1 classes env t)
 
-process_is_bare : (class : ℕ) (env : Env) (name : Name) (p : ProcessPart) → BeginsBare (process_operation class env name p)
+process_is_bare : (class : ℕ) (env : Env) (name : Name) (p : SectionPart) → BeginsBare (process_operation class env name p)
 process_is_bare class env name p = record { parameters = refl; result = refl }
 
-process_makes : (classes : List Class) (class : ℕ) (env : Env) (name : Name) (p : Option ProcessPart) → Where ProcessHas p →
+process_makes : (classes : List Class) (class : ℕ) (env : Env) (name : Name) (p : Option SectionPart) → Where ProcessHas p →
     Taken classes env.scope.globals (process_made class env name p).classes →
     Makes classes [] (process_made class env name p)
 process_makes classes class env name None h t = none_make

@@ -119,7 +119,7 @@ element_counted number of at = link_has (l.Element number of at) (CoreLink-F.Ele
 
 link_counted : (env : Env) (before : Receiver) (x : LinkPart) →
     in_link (link_core env before x) ≡ joined (map in_expression (cores_of env (link_parts x)))
-link_counted env before (call name arguments) =
+link_counted env before (call name arguments marks) =
     called_counted (builtin_of (type_of_receiver env.scope before) name) name (cores_of env arguments)
     (result_of (callee env.scope before name))
 link_counted env before (index number at) =
@@ -181,7 +181,7 @@ created_there classes class (x ∷ xs) there h =
 -- ---- chains
 
 link_parts_have : (x : LinkPart) → LinkHas x → Every PartHas (link_parts x)
-link_parts_have (call name arguments) h = h
+link_parts_have (call name arguments marks) h = h
 link_parts_have (index number at) h = (h, tt)
 
 links_have : (xs : List LinkPart) → Every LinkHas xs → Every PartHas (parts_of_links xs)

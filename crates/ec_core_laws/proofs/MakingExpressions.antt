@@ -125,7 +125,7 @@ layer_makes (Expression-F.NodeAt x at word) h g classes env t =
     one_makes classes env x (e.NodeAt (x.core env) word.from) h
     (expression_has (e.NodeAt (x.core env) word.from) (Core-F.NodeAt (x.core env) word.from)
     (e.rolls-NodeAt (x.core env) word.from)) t
-layer_makes (Expression-F.NodeCount at) h g classes env t =
+layer_makes (Expression-F.NodeCount at word) h g classes env t =
     nothing_makes e.NodeCount (expression_has e.NodeCount Core-F.NodeCount e.rolls-NodeCount)
 layer_makes (Expression-F.NewVector of x at word) h g classes env t =
     one_makes classes env x (e.NewVector (vector_of (written_in env.scope of)) (x.core env) word.from) h

@@ -5,7 +5,7 @@ use Rattle.std.specs.Prelude.{Any, Contains}
 use Rattle.ec_check.proofs.Every.{Every, every_joined, every_left, every_right}
 use Rattle.ec_check.specs.Numbers.{Number, Kept, Constructed, Created, Begun, Condition, joined, in_expression}
 use Rattle.ec_check.specs.Numbers.{in_statement, in_block}
-use Rattle.ec_check.specs.Parts.{Part, Piece, StatementPart, LinkPart, FactorPart, AddendPart, ArmPart, ProcessPart}
+use Rattle.ec_check.specs.Parts.{Part, Piece, StatementPart, LinkPart, FactorPart, AddendPart, ArmPart, SectionPart}
 use Rattle.ec_check.specs.Parts.{OperationPart, MemberPart, BodyPart, ObjectPart, AnExpression, AStatement, Made}
 use Rattle.ec_check.specs.Parts.{nothing_made, both_made}
 use Rattle.ec_check.specs.Places.{Env}
@@ -122,7 +122,7 @@ ArmHas = trees.ArmHas PartMakes StatementMakes PieceMakes
 abbrev pub PieceHas : Piece → Type 0
 PieceHas = trees.PieceHas PartMakes StatementMakes PieceMakes
 
-abbrev pub ProcessHas : ProcessPart → Type 0
+abbrev pub ProcessHas : SectionPart → Type 0
 ProcessHas = trees.ProcessHas PartMakes StatementMakes PieceMakes
 
 abbrev pub OperationHas : OperationPart → Type 0

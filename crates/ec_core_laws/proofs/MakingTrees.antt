@@ -11,15 +11,15 @@ use Rattle.ec_ast.specs.declared.Link.{Link, roll-Link}
 use Rattle.ec_ast.specs.declared.Member.{Member, roll-Member}
 use Rattle.ec_ast.specs.declared.ObjectConstructor.{ObjectConstructor, roll-ObjectConstructor}
 use Rattle.ec_ast.specs.declared.Operation.{Operation, roll-Operation}
-use Rattle.ec_ast.specs.declared.ProcessSection.{ProcessSection, roll-ProcessSection}
+use Rattle.ec_ast.specs.declared.Section.{Section, roll-Section}
 use Rattle.ec_ast.specs.declared.Statement.{Statement, roll-Statement}
 use Rattle.ec_check.proofs.Every.{Every}
 use Rattle.ec_check.proofs.Rolled.{expression_mapped, link_mapped, member_mapped, statement_mapped, block_mapped}
 use Rattle.ec_check.proofs.Rolled.{body_mapped, part_rolled, link_rolled, member_rolled, statement_rolled, addend_rolled}
 use Rattle.ec_check.proofs.Rolled.{arm_rolled, block_rolled, body_rolled, factor_rolled, object_rolled, operation_rolled}
-use Rattle.ec_check.proofs.Rolled.{process_rolled}
+use Rattle.ec_check.proofs.Rolled.{section_rolled}
 use Rattle.ec_check.specs.Tree.{link_step, member_step, body_step, part_of, link_of, member_of, statement_of, addend_of}
-use Rattle.ec_check.specs.Tree.{arm_of, block_of, body_of, factor_of, object_of, operation_of, process_of}
+use Rattle.ec_check.specs.Tree.{arm_of, block_of, body_of, factor_of, object_of, operation_of, section_of}
 use Rattle.ec_core_laws.proofs.MakingExpressions.{HasNoParameters, expression_makes}
 use Rattle.ec_core_laws.proofs.MakingParts.{PartMakes, StatementMakes, PieceMakes, PartHas, LinkHas, FactorHas}
 use Rattle.ec_core_laws.proofs.MakingParts.{AddendHas, ArmHas, PieceHas, ProcessHas, OperationHas, MemberHas, BodyHas}
@@ -27,9 +27,9 @@ use Rattle.ec_core_laws.proofs.MakingParts.{ObjectHas, ExpressionHas, StatementH
 use Rattle.ec_core_laws.proofs.MakingStatements.{statement_makes, block_makes}
 use Rattle.ec_ast.proofs.Claims.{Claims, Passes, Held, trees as bare_trees, ExpressionWith, LinkWith, MemberWith}
 use Rattle.ec_ast.proofs.Claims.{StatementWith, AddendWith, ArmWith, BlockWith, BodyWith, FactorWith, ObjectWith}
-use Rattle.ec_ast.proofs.Claims.{OperationWith, ProcessWith, bare_expression, bare_link, bare_member, bare_statement}
+use Rattle.ec_ast.proofs.Claims.{OperationWith, SectionWith, bare_expression, bare_link, bare_member, bare_statement}
 use Rattle.ec_ast.proofs.Claims.{bare_addend, bare_arm, bare_block, bare_body, bare_factor, bare_object}
-use Rattle.ec_ast.proofs.Claims.{bare_operation, bare_process, expression_holds, body_holds}
+use Rattle.ec_ast.proofs.Claims.{bare_operation, bare_section, expression_holds, body_holds}
 
 -- ---- what is claimed of each part of a tree
 
@@ -66,8 +66,8 @@ MakingObject x = ObjectHas (object_of x)
 abbrev MakingOperation : Operation → Type 0
 MakingOperation x = OperationHas (operation_of x)
 
-abbrev MakingProcess : ProcessSection → Type 0
-MakingProcess x = ProcessHas (process_of x)
+abbrev MakingProcess : Section → Type 0
+MakingProcess x = ProcessHas (section_of x)
 
 abbrev making : Claims
 making = record {
@@ -82,7 +82,7 @@ making = record {
   factor = MakingFactor;
   object = MakingObject;
   operation = MakingOperation;
-  process = MakingProcess;
+  section = MakingProcess;
 }
 
 -- what is claimed of each tree of a list
@@ -102,7 +102,7 @@ parts_are (Expression-F.Expression::Variable name) = tt
 parts_are (Expression-F.Parenthesised x at) = x.1
 parts_are (Expression-F.Constructor o) = o.1.0
 parts_are (Expression-F.NodeAt x at word) = x.1
-parts_are (Expression-F.NodeCount at) = tt
+parts_are (Expression-F.NodeCount at word) = tt
 parts_are (Expression-F.NewVector of x at word) = x.1
 parts_are (Expression-F.Postfix x links) = (x.1, each_held link_of LinkHas links)
 parts_are (Expression-F.Negative x at) = x.1
@@ -125,7 +125,7 @@ no_parameters (Expression-F.Expression::Variable name) = tt
 no_parameters (Expression-F.Parenthesised x at) = tt
 no_parameters (Expression-F.Constructor o) = o.1.1
 no_parameters (Expression-F.NodeAt x at word) = tt
-no_parameters (Expression-F.NodeCount at) = tt
+no_parameters (Expression-F.NodeCount at word) = tt
 no_parameters (Expression-F.NewVector of x at word) = tt
 no_parameters (Expression-F.Postfix x links) = tt
 no_parameters (Expression-F.Negative x at) = tt
@@ -213,8 +213,8 @@ member_at y = subst MemberHas (sym (member_rolled (bare_member making y))) (memb
 operation_at : (y : OperationWith making) → MakingOperation (roll-Operation (bare_operation making y))
 operation_at y = subst OperationHas (sym (operation_rolled (bare_operation making y))) y.block.1
 
-process_at : (y : ProcessWith making) → MakingProcess (roll-ProcessSection (bare_process making y))
-process_at y = subst ProcessHas (sym (process_rolled (bare_process making y))) y.block.1
+process_at : (y : SectionWith making) → MakingProcess (roll-Section (bare_section making y))
+process_at y = subst ProcessHas (sym (section_rolled (bare_section making y))) y.block.1
 
 abbrev body_layer : List (Held MakingMember) → Option (Held MakingBlock) → Option (Held MakingProcess) → BodyWith making
 body_layer ms i p = record { members = ms; initially = i; process = p }
@@ -247,7 +247,7 @@ passes = record {
   factor = factor_at;
   object = object_at;
   operation = operation_at;
-  process = process_at;
+  section = process_at;
 }
 
 pub making_part : (x : Expression) → MakingExpression x

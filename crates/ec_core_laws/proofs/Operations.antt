@@ -16,10 +16,10 @@ use Rattle.ec_check.proofs.SoundScopes.{SoundScope, sound_declaring, sound_in_a_
 use Rattle.ec_check.proofs.SoundStatements.{statement_is_sound}
 use Rattle.ec_check.specs.Layers.{expression_judged, statement_judged}
 use Rattle.ec_check.specs.Parts.{Made, nothing_made, both_made, Part, Piece, StatementPart, LinkPart, call, index, FactorPart, AddendPart}
-use Rattle.ec_check.specs.Parts.{ArmPart, ProcessPart, OperationPart, MemberPart, variable, constant, condition, operation}
+use Rattle.ec_check.specs.Parts.{ArmPart, SectionPart, OperationPart, MemberPart, variable, constant, condition, operation}
 use Rattle.ec_check.specs.Parts.{BodyPart, Holder}
 use Rattle.ec_check.specs.Parts.{AnExpression, AStatement, ABlock, link_judged, factor_judged, addend_judged, arm_judged}
-use Rattle.ec_check.specs.Parts.{member_judged, operation_judged, process_judged, holder_judged}
+use Rattle.ec_check.specs.Parts.{member_judged, operation_judged, section_judged, holder_judged}
 use Rattle.ec_check.specs.Resolving.{operation_core, initial_operation, process_operation, just_operation, just_class, class_core}
 use Rattle.ec_check.specs.Resolving.{number_of_holder, env_of_body, holder_made, member_made, members_made, process_made, initially_made}
 use Rattle.ec_check.specs.Resolving.{all_made, arms_made, expression_made, statement_made, statements_made, parts_of_links, chain_parts}
@@ -60,23 +60,23 @@ first_of scope h = initial_operation (number_of_holder scope h) (env_of_body sco
 abbrev pub named_of : Scope → Holder → OperationPart → Operation
 named_of scope h o = operation_core (number_of_holder scope h) (env_of_body scope h) o
 
-abbrev pub process_of : Scope → Holder → ProcessPart → Operation
-process_of scope h p = process_operation (number_of_holder scope h) (env_of_body scope h) h.name p
+abbrev pub section_of : Scope → Holder → SectionPart → Operation
+section_of scope h p = process_operation (number_of_holder scope h) (env_of_body scope h) h.name p
 
 -- no fault is in an operation, in the scope of the body
 abbrev pub OperationFaultless : Scope → Holder → OperationPart → Type 0
 OperationFaultless scope h o =
     (member_finished (scope_in scope h) h.is_monitored (judged.operation (operation_judged o))).faults ≡ []
 
-abbrev pub ProcessFaultless : Scope → Holder → ProcessPart → Type 0
-ProcessFaultless scope h p = (process_finished (scope_in scope h) (Some (process_judged p))).faults ≡ []
+abbrev pub ProcessFaultless : Scope → Holder → SectionPart → Type 0
+ProcessFaultless scope h p = (process_finished (scope_in scope h) (Some (section_judged p))).faults ≡ []
 
 -- the class, operation 0 of it, and what else its body makes
 abbrev pub holder_with : Scope → Holder → Made → Made
 holder_with scope h m = both_made (just_class (class_core scope h)) (both_made (just_operation (first_of scope h)) m)
 
-abbrev pub process_with : Scope → Holder → ProcessPart → Made → Made
-process_with scope h p m = both_made (just_operation (process_of scope h p)) m
+abbrev pub process_with : Scope → Holder → SectionPart → Made → Made
+process_with scope h p m = both_made (just_operation (section_of scope h p)) m
 
 pub body_is_sound : (b : BodyPart) → IsBody b → SoundBody b
 body_is_sound b tree = subst SoundBody tree.1 (good_body tree.0).0
@@ -93,7 +93,7 @@ pub record Steps (classes : List Class) (M : Made → Type 0) : Type 0 where
   pub named : (scope : Scope) (h : Holder) → Known classes scope h → (o : OperationPart) → IsPiece o.block →
       OperationFaultless scope h o → M (just_operation (named_of scope h o))
   pub without : (scope : Scope) (h : Holder) → Known classes scope h → (m : Made) → M m → M (holder_with scope h m)
-  pub section : (scope : Scope) (h : Holder) → Known classes scope h → (p : ProcessPart) → IsPiece p.block →
+  pub section : (scope : Scope) (h : Holder) → Known classes scope h → (p : SectionPart) → IsPiece p.block →
       ProcessFaultless scope h p → (m n : Made) → M m → M n → M (holder_with scope h (both_made m (process_with scope h p n)))
 
 -- what a part begins with: no faults, and its classes are there
@@ -159,7 +159,7 @@ module _ (classes : List Class) (M : Made → Type 0) (steps : Steps classes M) 
   abbrev MemberHas : MemberPart → Type 0
   MemberHas = trees.MemberHas PartMade StatementMade PieceMade
 
-  abbrev ProcessHas : ProcessPart → Type 0
+  abbrev ProcessHas : SectionPart → Type 0
   ProcessHas = trees.ProcessHas PartMade StatementMade PieceMade
 
   abbrev ArmHas : ArmPart → Type 0
@@ -181,7 +181,7 @@ module _ (classes : List Class) (M : Made → Type 0) (steps : Steps classes M) 
 
   link_parts_are : (ls : List LinkPart) → Every LinkHas ls → Every PartHas (parts_of_links ls)
   link_parts_are [] h = tt
-  link_parts_are (call name arguments ∷ ls) h = every_joined PartHas arguments (parts_of_links ls) h.0 (link_parts_are ls h.1)
+  link_parts_are (call name arguments marks ∷ ls) h = every_joined PartHas arguments (parts_of_links ls) h.0 (link_parts_are ls h.1)
   link_parts_are (index number at ∷ ls) h = (h.0, link_parts_are ls h.1)
 
   values_are : {A : Type 0} (v : A → Part) (xs : List A) → Every (λ x. PartHas (v x)) xs → Every PartHas (map v xs)
@@ -240,8 +240,8 @@ module _ (classes : List Class) (M : Made → Type 0) (steps : Steps classes M) 
   abbrev initially_of : Scope → Holder → Made
   initially_of scope h = initially_made (scope_in scope h) h.body.initially
 
-  with_process : (scope : Scope) (h : Holder) → Known classes scope h → (p : Option ProcessPart) → Where ProcessHas p →
-      Taken classes (process_finished (scope_in scope h) (option_map process_judged p)).faults
+  with_process : (scope : Scope) (h : Holder) → Known classes scope h → (p : Option SectionPart) → Where ProcessHas p →
+      Taken classes (process_finished (scope_in scope h) (option_map section_judged p)).faults
       (process_made (number_of_holder scope h) (env_of_body scope h) h.name p).classes →
       M (members_of scope h) → M (initially_of scope h) →
       M
@@ -313,7 +313,7 @@ module _ (classes : List Class) (M : Made → Type 0) (steps : Steps classes M) 
   layer_made (Expression-F.Parenthesised x at) h needed scope s t = list_made scope (x ∷ []) (x.part ∷ []) _ s (h, tt) refl t
   layer_made (Expression-F.Constructor o) h needed scope s t = holder_has_made scope o.holder s h.0 h.1 t
   layer_made (Expression-F.NodeAt x at word) h needed scope s t = list_made scope (x ∷ []) (x.part ∷ []) _ s (h, tt) refl t
-  layer_made (Expression-F.NodeCount at) h needed scope s t = steps.nothing
+  layer_made (Expression-F.NodeCount at word) h needed scope s t = steps.nothing
   layer_made (Expression-F.NewVector of x at word) h needed scope s t = list_made scope (x ∷ []) (x.part ∷ []) _ s (h, tt) refl t
   layer_made (Expression-F.Postfix x links) h needed scope s t =
       chain_made scope (receiver scope x.part (map link_judged links)) x links s h.0 h.1

@@ -12,14 +12,14 @@ use Rattle.ec_check.proofs.Fusion.{same_part, same_class}
 use Rattle.ec_check.proofs.RangedPrograms.{none_in_order, each_contained}
 use Rattle.ec_check.proofs.SoundPrograms.{outermost_is_sound}
 use Rattle.ec_check.proofs.SoundScopes.{SoundScope}
-use Rattle.ec_check.specs.Parts.{Made, ProcessPart, OperationPart, Holder}
+use Rattle.ec_check.specs.Parts.{Made, SectionPart, OperationPart, Holder}
 use Rattle.ec_check.specs.Program.{constant_made, constants_made, outermost, core_of}
 use Rattle.ec_check.specs.Tree.{class_part}
 use Rattle.ec_types.specs.Declarations.{declarations_of}
 use Rattle.ec_types.specs.Table.{Table, IsTable}
 use Rattle.ec_core.specs.declared.Class.{Class}
 use Rattle.ec_core.specs.declared.Operation.{Operation}
-use Rattle.ec_core_laws.proofs.Operations.{Known, Steps, OperationFaultless, ProcessFaultless, first_of, named_of, process_of, process_with}
+use Rattle.ec_core_laws.proofs.Operations.{Known, Steps, OperationFaultless, ProcessFaultless, first_of, named_of, section_of, process_with}
 use Rattle.ec_core_laws.proofs.Operations.{part_made, body_made_of, holder_has_made}
 use Rattle.ec_core_laws.proofs.Trees.{IsPiece}
 use Rattle.ec_rules.specs.Faults.{faults_in_constant, faults_of_program, StaticFaults}
@@ -73,8 +73,8 @@ pub record EachStep (classes : List Class) (Q : Operation → Type 0) : Type 0 w
   pub named : (scope : Scope) (h : Holder) → Known classes scope h → (o : OperationPart) → IsPiece o.block →
       OperationFaultless scope h o → Q (named_of scope h o)
   pub first : (scope : Scope) (h : Holder) → Known classes scope h → Q (first_of scope h)
-  pub process : (scope : Scope) (h : Holder) → Known classes scope h → (p : ProcessPart) → IsPiece p.block →
-      ProcessFaultless scope h p → Q (process_of scope h p)
+  pub process : (scope : Scope) (h : Holder) → Known classes scope h → (p : SectionPart) → IsPiece p.block →
+      ProcessFaultless scope h p → Q (section_of scope h p)
 
 module _ (classes : List Class) (Q : Operation → Type 0) (each : EachStep classes Q) where
   abbrev Each : Made → Type 0

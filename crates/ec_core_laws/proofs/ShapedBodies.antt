@@ -5,7 +5,7 @@ use Rattle.std.proofs.Common.{if◌then◌else◌}
 use Rattle.ec_ast.specs.declared.Name.{Name}
 use Rattle.ec_ast.specs.declared.Parameter.{Parameter}
 use Rattle.ec_check.proofs.Every.{Every, Where, every_joined, every_each, either}
-use Rattle.ec_check.specs.Parts.{Made, Piece, ProcessPart, OperationPart, MemberPart, variable, constant}
+use Rattle.ec_check.specs.Parts.{Made, Piece, SectionPart, OperationPart, MemberPart, variable, constant}
 use Rattle.ec_check.specs.Parts.{condition, operation, Holder, member_judged, operation_judged, holder_judged, both_made}
 use Rattle.ec_check.specs.Places.{Env, field_named, type_found}
 use Rattle.ec_check.specs.Resolving.{at_start, body_made, captures_of, class_core, env_in, env_of_body, env_of_operation, field_of}
@@ -232,7 +232,7 @@ module _ (types : ℕ) where
       (member_shaped class env s m h.0 (first_numbers types (member_made class env m) (members_made class env ms) n))
       (members_shaped class env s ms h.1 (second_numbers types (member_made class env m) (members_made class env ms) n))
 
-  process_shaped : (class : ℕ) (env : Env) (name : Name) → ScopeBelow types env.scope → (p : Option ProcessPart) →
+  process_shaped : (class : ℕ) (env : Env) (name : Name) → ScopeBelow types env.scope → (p : Option SectionPart) →
       Where (ProcessHas types) p → NumbersBelow types (process_made class env name p) →
       MadeShaped types (process_made class env name p)
   process_shaped class env name s None h n = nothing_shaped types

@@ -90,7 +90,7 @@ module _ (types : ℕ) where
 
   link_has_shape : (env : Env) → NamesFit types env.scope → (before : Receiver) (x : LinkPart) → LinkHas types x →
       IsShapedLink types (link_core env before x)
-  link_has_shape env n before (call name arguments) h =
+  link_has_shape env n before (call name arguments marks) h =
       called_shaped (builtin_of (type_of_receiver env.scope before) name) name (cores_of env arguments)
       (calls.result_of (callee env.scope before name)) (cores_shaped env n arguments h)
   link_has_shape env n before (index number at) h =
@@ -163,7 +163,7 @@ module _ (types : ℕ) where
   core_shaped (Expression-F.NodeAt x at word) h env n =
       has (e.NodeAt (x.core env) word.from) (Form-F.NodeAt (x.core env) word.from) (e.rolls-NodeAt (x.core env) word.from)
       (h.1.core env n)
-  core_shaped (Expression-F.NodeCount at) h env n = has e.NodeCount Form-F.NodeCount e.rolls-NodeCount refl
+  core_shaped (Expression-F.NodeCount at word) h env n = has e.NodeCount Form-F.NodeCount e.rolls-NodeCount refl
   core_shaped (Expression-F.NewVector of x at word) h env n =
       has (e.NewVector (vector_of (written_in env.scope of)) (x.core env) word.from)
       (Form-F.NewVector (vector_of (written_in env.scope of)) (x.core env) word.from)

@@ -3,7 +3,7 @@
 use Rattle.std.proofs.Common.{◌≡◌, ℕ, Bool, true, List, [], ◌∷◌, map, refl}
 use Rattle.ec_check.proofs.Every.{Every, every_joined, every_left, every_right, first_holds, second_holds}
 use Rattle.ec_check.proofs.WellValues.{both_hold}
-use Rattle.ec_check.specs.Parts.{Made, Part, Piece, StatementPart, LinkPart, FactorPart, AddendPart, ArmPart, ProcessPart, MemberPart}
+use Rattle.ec_check.specs.Parts.{Made, Part, Piece, StatementPart, LinkPart, FactorPart, AddendPart, ArmPart, SectionPart, MemberPart}
 use Rattle.ec_check.specs.Parts.{BodyPart, AnExpression, AStatement, nothing_made, both_made}
 use Rattle.ec_check.specs.Places.{Env}
 use Rattle.ec_core_laws.proofs.Trees as trees
@@ -49,7 +49,7 @@ ArmHas types = trees.ArmHas (PartShaped types) (StatementShaped types) (PieceSha
 abbrev pub PieceHas : ℕ → Piece → Type 0
 PieceHas types = trees.PieceHas (PartShaped types) (StatementShaped types) (PieceShaped types)
 
-abbrev pub ProcessHas : ℕ → ProcessPart → Type 0
+abbrev pub ProcessHas : ℕ → SectionPart → Type 0
 ProcessHas types = trees.ProcessHas (PartShaped types) (StatementShaped types) (PieceShaped types)
 
 abbrev pub MemberHas : ℕ → MemberPart → Type 0

@@ -49,7 +49,7 @@ module _ (types : ℕ) where
   negated_form table form = tt
 
   chain_form : (table : Table) (form : Form) (links : List judged.LinkPart) → FormBelow types table (form_of_chain form links)
-  chain_form table (NameAlone name) (judged.call word arguments ∷ []) =
+  chain_form table (NameAlone name) (judged.call word arguments marks ∷ []) =
       either (FormBelow types table) (is_word word (codes "create")) (Created name) Other tt tt
   chain_form table form links = tt
 
@@ -65,7 +65,7 @@ module _ (types : ℕ) where
       form_within scope.table x.part.form (h.1.form scope (first_numbers types (x.made scope) (all_made scope []) k))
   form_below (Expression-F.Constructor o) h scope k = k.0
   form_below (Expression-F.NodeAt x at word) h scope k = tt
-  form_below (Expression-F.NodeCount at) h scope k = tt
+  form_below (Expression-F.NodeCount at word) h scope k = tt
   form_below (Expression-F.NewVector of x at word) h scope k = tt
   form_below (Expression-F.Postfix x links) h scope k = chain_form scope.table x.part.form (map link_judged links)
   form_below (Expression-F.Negative x at) h scope k = negated_form scope.table x.part.form
@@ -97,7 +97,7 @@ module _ (types : ℕ) where
   addend_values (a ∷ xs) h = (h.0, addend_values xs h.1)
 
   link_values : (x : LinkPart) → LinkHas types x → Every (PartHas types) (link_parts x)
-  link_values (call name arguments) h = h
+  link_values (call name arguments marks) h = h
   link_values (index number at) h = (h, tt)
 
   links_values : (xs : List LinkPart) → Every (LinkHas types) xs → Every (PartHas types) (parts_of_links xs)
@@ -122,7 +122,7 @@ module _ (types : ℕ) where
   made_shaped (Expression-F.Parenthesised x at) h scope s n = all_made_shaped scope s (x ∷ []) (h, tt) n
   made_shaped (Expression-F.Constructor o) h scope s n = holder_shaped types scope o.holder s h.1 n
   made_shaped (Expression-F.NodeAt x at word) h scope s n = all_made_shaped scope s (x ∷ []) (h, tt) n
-  made_shaped (Expression-F.NodeCount at) h scope s n = nothing_shaped types
+  made_shaped (Expression-F.NodeCount at word) h scope s n = nothing_shaped types
   made_shaped (Expression-F.NewVector of x at word) h scope s n = all_made_shaped scope s (x ∷ []) (h, tt) n
   made_shaped (Expression-F.Postfix x links) h scope s n =
       let before : Receiver = receiver scope x.part (map link_judged links) in

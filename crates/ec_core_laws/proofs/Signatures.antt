@@ -8,8 +8,8 @@ use Rattle.ec_ast.specs.declared.Span.{Span}
 use Rattle.ec_check.proofs.DeclaringParts.{NothingInName, EveryPair}
 use Rattle.ec_check.proofs.Every.{Every, every_joined, every_unmap, none_left, none_right, none_each, either}
 use Rattle.ec_check.proofs.NumberedParts.{none_both}
-use Rattle.ec_check.specs.Parts.{Part, Piece, StatementPart, LinkPart, FactorPart, AddendPart, ArmPart, ProcessPart, OperationPart}
-use Rattle.ec_check.specs.Parts.{MemberPart, BodyPart, Holder, ObjectPart, link_judged, arm_judged, process_judged, operation_judged}
+use Rattle.ec_check.specs.Parts.{Part, Piece, StatementPart, LinkPart, FactorPart, AddendPart, ArmPart, SectionPart, OperationPart}
+use Rattle.ec_check.specs.Parts.{MemberPart, BodyPart, Holder, ObjectPart, link_judged, arm_judged, section_judged, operation_judged}
 use Rattle.ec_check.specs.Parts.{member_judged, holder_judged}
 use Rattle.ec_types.specs.Declarations as conform
 use Rattle.ec_types.specs.Declarations.{both, joined, nothing, if_there, operation_at, within_members, operations_behind}
@@ -68,8 +68,8 @@ KnowingPiece b d = (scope : Scope) → (b.piece scope).faults ≡ [] → KnowsTy
 abbrev pub KnowingStatement : StatementPart → Declarations → Type 0
 KnowingStatement x d = (scope : Scope) → (x.part.finished scope).faults ≡ [] → KnowsTypes scope.table d
 
-abbrev pub KnowingProcess : ProcessPart → Declarations → Type 0
-KnowingProcess p d = (scope : Scope) → (process_finished scope (Some (process_judged p))).faults ≡ [] → KnowsTypes scope.table d
+abbrev pub KnowingProcess : SectionPart → Declarations → Type 0
+KnowingProcess p d = (scope : Scope) → (process_finished scope (Some (section_judged p))).faults ≡ [] → KnowsTypes scope.table d
 
 -- of a member
 pub record KnowsMember (table : Table) (m : conform.MemberPart) : Type 0 where
@@ -93,7 +93,7 @@ abbrev pub KnowingBody : BodyPart → conform.BodyPart → Type 0
 KnowingBody b d = (scope : Scope) (is_monitored : Bool) →
     (members_finished scope is_monitored (map member_judged b.members)).faults ≡ [] →
     (finished_if scope (option_map (λ p. p.piece) b.initially)).faults ≡ [] →
-    (process_finished scope (option_map process_judged b.process)).faults ≡ [] → KnowsBody scope.table d
+    (process_finished scope (option_map section_judged b.process)).faults ≡ [] → KnowsBody scope.table d
 
 abbrev pub KnowingObject : ObjectPart → Declarations → Type 0
 KnowingObject o d = (scope : Scope) → faults_in_holder scope (holder_judged o.holder) ≡ [] → KnowsTypes scope.table d

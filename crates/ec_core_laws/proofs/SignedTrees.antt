@@ -12,22 +12,22 @@ use Rattle.ec_ast.specs.declared.Link.{Link, roll-Link}
 use Rattle.ec_ast.specs.declared.Member.{Member, roll-Member}
 use Rattle.ec_ast.specs.declared.ObjectConstructor.{ObjectConstructor, roll-ObjectConstructor}
 use Rattle.ec_ast.specs.declared.Operation.{Operation, roll-Operation}
-use Rattle.ec_ast.specs.declared.ProcessSection.{ProcessSection, roll-ProcessSection}
+use Rattle.ec_ast.specs.declared.Section.{Section, roll-Section}
 use Rattle.ec_ast.specs.declared.Statement.{Statement, roll-Statement}
 use Rattle.ec_check.proofs.DeclaringParts.{EveryPair}
 use Rattle.ec_check.proofs.Every.{Every, every_left, every_right, every_unmap, none_left, none_right, none_each}
 use Rattle.ec_check.proofs.GoodExpressions.{each_pair}
 use Rattle.ec_check.proofs.GoodTrees.{good_part}
 use Rattle.ec_check.proofs.Rolled.{expression_mapped, link_mapped, member_mapped, statement_mapped, addend_mapped, arm_mapped, block_mapped}
-use Rattle.ec_check.proofs.Rolled.{body_mapped, factor_mapped, object_mapped, operation_mapped, process_mapped}
+use Rattle.ec_check.proofs.Rolled.{body_mapped, factor_mapped, object_mapped, operation_mapped, section_mapped}
 use Rattle.ec_check.proofs.Rolled.{part_rolled, link_rolled, member_rolled, statement_rolled, addend_rolled, arm_rolled, block_rolled}
-use Rattle.ec_check.proofs.Rolled.{body_rolled, factor_rolled, object_rolled, operation_rolled, process_rolled}
+use Rattle.ec_check.proofs.Rolled.{body_rolled, factor_rolled, object_rolled, operation_rolled, section_rolled}
 use Rattle.ec_check.specs.Layers.{expression_judged, statement_judged}
 use Rattle.ec_check.specs.Parts.{StatementPart, factor_judged, addend_judged, arm_judged, member_judged}
 use Rattle.ec_check.specs.Tree.{expression_step, link_step, member_step, statement_step, addend_step, arm_step, block_step, body_step}
-use Rattle.ec_check.specs.Tree.{factor_step, object_step, operation_step, process_step}
+use Rattle.ec_check.specs.Tree.{factor_step, object_step, operation_step, section_step}
 use Rattle.ec_check.specs.Tree.{part_of, link_of, member_of, statement_of, addend_of, arm_of, block_of, body_of, factor_of}
-use Rattle.ec_check.specs.Tree.{object_of, operation_of, process_of}
+use Rattle.ec_check.specs.Tree.{object_of, operation_of, section_of}
 use Rattle.ec_types.specs.Declarations as conform
 use Rattle.ec_types.specs.Declarations.{both, joined, nothing, within_members, in_expression, in_link, in_member, in_statement}
 use Rattle.ec_types.specs.Declarations.{in_addend, in_arm, in_block, in_body, in_factor, in_constructor, in_process}
@@ -49,9 +49,9 @@ use Rattle.ec_rules.specs.Statements.{piece_of_arm}
 use Rattle.ec_types.specs.declared.scopes.scope.Scope.{Scope}
 use Rattle.ec_types.specs.Scopes.{declaring, in_a_loop, in_a_process}
 use Rattle.ec_ast.proofs.Claims.{Claims, Passes, Held, trees, ExpressionWith, LinkWith, MemberWith, StatementWith, AddendWith}
-use Rattle.ec_ast.proofs.Claims.{ArmWith, BlockWith, BodyWith, FactorWith, ObjectWith, OperationWith, ProcessWith}
+use Rattle.ec_ast.proofs.Claims.{ArmWith, BlockWith, BodyWith, FactorWith, ObjectWith, OperationWith, SectionWith}
 use Rattle.ec_ast.proofs.Claims.{bare_expression, bare_link, bare_member, bare_statement, bare_addend, bare_arm, bare_block}
-use Rattle.ec_ast.proofs.Claims.{bare_body, bare_factor, bare_object, bare_operation, bare_process, expression_holds, body_holds}
+use Rattle.ec_ast.proofs.Claims.{bare_body, bare_factor, bare_object, bare_operation, bare_section, expression_holds, body_holds}
 
 -- ---- what is claimed of a part of each kind
 
@@ -88,8 +88,8 @@ IsKnowingObject x = KnowingObject (object_of x) (in_constructor x)
 abbrev IsKnowingOperation : Operation → Type 0
 IsKnowingOperation x = KnowingOperation (operation_of x) (in_operation x)
 
-abbrev IsKnowingProcess : ProcessSection → Type 0
-IsKnowingProcess x = KnowingProcess (process_of x) (in_process x)
+abbrev IsKnowingProcess : Section → Type 0
+IsKnowingProcess x = KnowingProcess (section_of x) (in_process x)
 
 abbrev knowing : Claims
 knowing = record {
@@ -104,7 +104,7 @@ knowing = record {
   factor = IsKnowingFactor;
   object = IsKnowingObject;
   operation = IsKnowingOperation;
-  process = IsKnowingProcess;
+  section = IsKnowingProcess;
 }
 
 -- ---- lists of parts
@@ -140,7 +140,7 @@ layer_declares (Expression-F.Expression::Variable name) needed scope e = tt
 layer_declares (Expression-F.Parenthesised x at) needed scope e = x.1 true scope (none_left _ _ (none_left _ _ e))
 layer_declares (Expression-F.Constructor o) needed scope e = o.1 scope e
 layer_declares (Expression-F.NodeAt x at word) needed scope e = x.1 true scope (none_left _ _ (none_left _ _ e))
-layer_declares (Expression-F.NodeCount at) needed scope e = tt
+layer_declares (Expression-F.NodeCount at word) needed scope e = tt
 layer_declares (Expression-F.NewVector of x at word) needed scope e = x.1 true scope (none_left _ _ (none_left _ _ e))
 layer_declares (Expression-F.Postfix x links) needed scope e =
     postfix_declares needed scope (part_of x.0) (map link_of (trees links)) (in_expression x.0)
@@ -358,16 +358,16 @@ operation_at y =
     (sym (operation_declares (bare_operation knowing y)))
     (operation_is y))
 
-process_is : (y : ProcessWith knowing) →
-    KnowingProcess (process_step (process_mapped (bare_process knowing y)))
-    (conform.process_step (process_declared (bare_process knowing y)))
+process_is : (y : SectionWith knowing) →
+    KnowingProcess (section_step (section_mapped (bare_section knowing y)))
+    (conform.section_step (process_declared (bare_section knowing y)))
 process_is y = λ scope e. y.block.1 (in_a_process scope) (none_left _ _ e)
 
-process_at : (y : ProcessWith knowing) → IsKnowingProcess (roll-ProcessSection (bare_process knowing y))
+process_at : (y : SectionWith knowing) → IsKnowingProcess (roll-Section (bare_section knowing y))
 process_at y =
-    subst (λ x. KnowingProcess x (in_process (roll-ProcessSection (bare_process knowing y))))
-    (sym (process_rolled (bare_process knowing y)))
-    (subst (KnowingProcess (process_step (process_mapped (bare_process knowing y)))) (sym (process_declares (bare_process knowing y)))
+    subst (λ x. KnowingProcess x (in_process (roll-Section (bare_section knowing y))))
+    (sym (section_rolled (bare_section knowing y)))
+    (subst (KnowingProcess (section_step (section_mapped (bare_section knowing y)))) (sym (process_declares (bare_section knowing y)))
     (process_is y))
 
 abbrev body_layer : List (Held IsKnowingMember) → Option (Held IsKnowingBlock) → Option (Held IsKnowingProcess) → BodyWith knowing
@@ -436,7 +436,7 @@ passes = record {
   factor = factor_at;
   object = object_at;
   operation = operation_at;
-  process = process_at;
+  section = process_at;
 }
 
 pub knowing_part : (x : Expression) → IsKnowingPart x

@@ -94,8 +94,8 @@ one_not_alone false name = refl
 
 named_not_alone : (name : Name) (links : List judged.LinkPart) → is_alone (form_of_chain (NameAlone name) links) ≡ false
 named_not_alone name [] = refl
-named_not_alone name (judged.call word arguments ∷ []) = one_not_alone (calls.is_word word (codes "create")) name
-named_not_alone name (judged.call word arguments ∷ (x ∷ xs)) = refl
+named_not_alone name (judged.call word arguments marks ∷ []) = one_not_alone (calls.is_word word (codes "create")) name
+named_not_alone name (judged.call word arguments marks ∷ (x ∷ xs)) = refl
 named_not_alone name (judged.index number at ∷ xs) = refl
 
 chain_not_alone : (form : Form) (links : List judged.LinkPart) → is_alone (form_of_chain form links) ≡ false
@@ -121,7 +121,7 @@ alone_is (Expression-F.Expression::Variable name) is env = (place_of env name.te
 alone_is (Expression-F.Parenthesised x at) is env = not_both (sym (no_longer_alone x.part.form) ∙ is)
 alone_is (Expression-F.Constructor o) is env = not_both is
 alone_is (Expression-F.NodeAt x at word) is env = not_both is
-alone_is (Expression-F.NodeCount at) is env = not_both is
+alone_is (Expression-F.NodeCount at word) is env = not_both is
 alone_is (Expression-F.NewVector of x at word) is env = not_both is
 alone_is (Expression-F.Postfix x links) is env = not_both (sym (chain_not_alone x.part.form (map link_judged links)) ∙ is)
 alone_is (Expression-F.Negative x at) is env = not_both (sym (negated_not_alone x.part.form) ∙ is)
@@ -216,7 +216,7 @@ module _ (S : StatementPart → Type 0) (B : Piece → Type 0) where
   -- ---- calls and indices
 
   abbrev own_height : Scope → judged.LinkPart → ℕ
-  own_height scope (judged.call name arguments) = stacked 1 (values_in scope arguments)
+  own_height scope (judged.call name arguments marks) = stacked 1 (values_in scope arguments)
   own_height scope (judged.index number at) = plus 1 (value_in scope number).height
 
   called_small : (env : Env) (b : Option Builtin) (name : Name) (arguments : List Part) (result : Option StaticType) →
@@ -244,7 +244,7 @@ module _ (S : StatementPart → Type 0) (B : Piece → Type 0) where
   link_small : (env : Env) (before : Receiver) (x : LinkPart) → LinkHas x →
       Small (size_of_link (link_core env before x)) (height_of_link (link_core env before x)) (link_nodes env.scope (link_judged x))
       (own_height env.scope (link_judged x))
-  link_small env before (call name arguments) h =
+  link_small env before (call name arguments marks) h =
       called_small env (builtin_of (type_of_receiver env.scope before) name) name arguments
       (calls.result_of (callee env.scope before name)) h
   link_small env before (index number at) h =
@@ -268,7 +268,7 @@ module _ (S : StatementPart → Type 0) (B : Piece → Type 0) where
 
   links_height_is : (scope : Scope) (r : ℕ) (xs : List judged.LinkPart) → links_height scope r xs ≡ max r (greatest (own_height scope) xs)
   links_height_is scope r [] = omega arith
-  links_height_is scope r (judged.call name arguments ∷ xs) =
+  links_height_is scope r (judged.call name arguments marks ∷ xs) =
       let k : links_height scope (max r (stacked 1 (values_in scope arguments))) xs
       ≡ max (max r (stacked 1 (values_in scope arguments))) (greatest (own_height scope) xs) =
       links_height_is scope (max r (stacked 1 (values_in scope arguments))) xs in
@@ -293,7 +293,7 @@ module _ (S : StatementPart → Type 0) (B : Piece → Type 0) where
       (e.rolls-Chain head (x ∷ xs))
 
   abbrev BeginsWithCall : Receiver → List LinkPart → Type 0
-  BeginsWithCall (Creation name) (call word arguments ∷ xs) = Unit {0}
+  BeginsWithCall (Creation name) (call word arguments marks ∷ xs) = Unit {0}
   BeginsWithCall (Creation name) (index number at ∷ xs) = ⊥
   BeginsWithCall (Creation name) [] = ⊥
   BeginsWithCall Own xs = Unit {0}
@@ -302,7 +302,7 @@ module _ (S : StatementPart → Type 0) (B : Piece → Type 0) where
   creation_call : (name : Name) (xs : List LinkPart) → is_creation (map link_judged xs) ≡ true → BeginsWithCall (Creation name) xs
   creation_call name [] c = not_both c
   creation_call name (index number at ∷ xs) c = not_both c
-  creation_call name (call word arguments ∷ xs) c = tt
+  creation_call name (call word arguments marks ∷ xs) c = tt
 
   begins_if : (scope : Scope) (name : Name) (of : Option StaticType) (xs : List LinkPart) (b : Bool) →
       is_creation (map link_judged xs) && is_some (class_named scope name.text) ≡ b →
@@ -358,19 +358,19 @@ module _ (S : StatementPart → Type 0) (B : Piece → Type 0) where
 
   creation_small : (env : Env) (name word : Name) (head : Part) (arguments : List Part) (xs : List LinkPart) → Every PartHas arguments →
       Every LinkHas xs →
-      Small (size_of (chain_core env (Creation name) head (call word arguments ∷ xs)))
-      (height_of (chain_core env (Creation name) head (call word arguments ∷ xs)))
-      (plus (value_in env.scope head.part).nodes (total (link_nodes env.scope) (map link_judged (call word arguments ∷ xs))))
-      (postfix_height env.scope (Creation name) head.part (map link_judged (call word arguments ∷ xs)))
+      Small (size_of (chain_core env (Creation name) head (call word arguments marks ∷ xs)))
+      (height_of (chain_core env (Creation name) head (call word arguments marks ∷ xs)))
+      (plus (value_in env.scope head.part).nodes (total (link_nodes env.scope) (map link_judged (call word arguments marks ∷ xs))))
+      (postfix_height env.scope (Creation name) head.part (map link_judged (call word arguments marks ∷ xs)))
   creation_small env name word head arguments xs h k =
       let class : ℕ = number_of_class (class_named env.scope name.text) in
-      let first : Link = link_core env (Creation name) (call word arguments) in
-      let rest : List Link = links_core env (Typed (link_type env.scope (Creation name) (link_judged (call word arguments)))) xs in
+      let first : Link = link_core env (Creation name) (call word arguments marks) in
+      let rest : List Link = links_core env (Typed (link_type env.scope (Creation name) (link_judged (call word arguments marks)))) xs in
       let same : arguments_in (out-Link first) ≡ cores_of env arguments = creation_arguments env name word arguments in
       subst
       (Small (size_of (chained (e.Create class (arguments_in (out-Link first))) rest))
       (height_of (chained (e.Create class (arguments_in (out-Link first))) rest))
-      (plus (value_in env.scope head.part).nodes (total (link_nodes env.scope) (map link_judged (call word arguments ∷ xs)))))
+      (plus (value_in env.scope head.part).nodes (total (link_nodes env.scope) (map link_judged (call word arguments marks ∷ xs)))))
       (sym
       (links_height_is env.scope (max 1 (stacked 0 (values_in env.scope (judged_in arguments)))) (map link_judged xs)))
       (same_small
@@ -382,7 +382,7 @@ module _ (S : StatementPart → Type 0) (B : Piece → Type 0) where
       (create_height class (arguments_in (out-Link first)) ∙ ap (λ xs. max 1 (stacked_of 0 (map height_of xs))) same))
       (named_small (value_in env.scope head.part).nodes _ _ _ _ _ _ _ _
       (arguments_small env 0 0 (λ m. omega arith) arguments h)
-      (links_small env (Typed (link_type env.scope (Creation name) (link_judged (call word arguments)))) xs k)))
+      (links_small env (Typed (link_type env.scope (Creation name) (link_judged (call word arguments marks)))) xs k)))
 
   chain_small : (env : Env) (before : Receiver) (head : Part) (xs : List LinkPart) → BeginsWithCall before xs → PartHas head →
       Every LinkHas xs →
@@ -391,7 +391,7 @@ module _ (S : StatementPart → Type 0) (B : Piece → Type 0) where
       (postfix_height env.scope before head.part (map link_judged xs))
   chain_small env (Creation name) head [] b h k = absurd b
   chain_small env (Creation name) head (index number at ∷ xs) b h k = absurd b
-  chain_small env (Creation name) head (call word arguments ∷ xs) b h k =
+  chain_small env (Creation name) head (call word arguments marks ∷ xs) b h k =
       creation_small env name word head arguments xs k.0 k.1
   chain_small env Own head xs b h k = valued_small env Own head xs h k
   chain_small env (Typed of) head xs b h k = valued_small env (Typed of) head xs h k
@@ -436,7 +436,7 @@ module _ (S : StatementPart → Type 0) (B : Piece → Type 0) where
   layer_small (Expression-F.NodeAt x at word) h env =
       measured (e.NodeAt (x.core env) word.from) (Core-F.NodeAt (x.core env) word.from) (e.rolls-NodeAt (x.core env) word.from) _ _
       (more_small _ _ _ _ (small_in env x h))
-  layer_small (Expression-F.NodeCount at) h env = measured e.NodeCount Core-F.NodeCount e.rolls-NodeCount _ _ leaf_small
+  layer_small (Expression-F.NodeCount at word) h env = measured e.NodeCount Core-F.NodeCount e.rolls-NodeCount _ _ leaf_small
   layer_small (Expression-F.NewVector of x at word) h env =
       measured (e.NewVector (vector_of (written_in env.scope of)) (x.core env) word.from)
       (Core-F.NewVector (vector_of (written_in env.scope of)) (x.core env) word.from)
@@ -492,7 +492,7 @@ module _ (S : StatementPart → Type 0) (B : Piece → Type 0) where
   some_nodes (Expression-F.Parenthesised x at) h scope = h.1.some true scope
   some_nodes (Expression-F.Constructor o) h scope = omega arith
   some_nodes (Expression-F.NodeAt x at word) h scope = one_more _
-  some_nodes (Expression-F.NodeCount at) h scope = omega arith
+  some_nodes (Expression-F.NodeCount at word) h scope = omega arith
   some_nodes (Expression-F.NewVector of x at word) h scope = one_more _
   some_nodes (Expression-F.Postfix x links) h scope = at_least _ _ (h.0.1.some true scope)
   some_nodes (Expression-F.Negative x at) h scope = one_more _

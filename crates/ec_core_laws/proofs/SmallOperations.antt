@@ -6,7 +6,7 @@ use Rattle.ec_ast.specs.declared.Parameter.{Parameter}
 use Rattle.ec_ast.specs.declared.Program.{Program}
 use Rattle.ec_ast.specs.declared.Span.{Span}
 use Rattle.ec_check.proofs.Every.{Every, Where, none_left, none_right}
-use Rattle.ec_check.specs.Parts.{Part, Piece, MemberPart, variable, constant, condition, operation, OperationPart, ProcessPart, Holder}
+use Rattle.ec_check.specs.Parts.{Part, Piece, MemberPart, variable, constant, condition, operation, OperationPart, SectionPart, Holder}
 use Rattle.ec_check.specs.Parts.{member_judged, operation_judged, holder_judged}
 use Rattle.ec_check.specs.Places.{Env, field_named}
 use Rattle.ec_check.specs.Program.{core_of}
@@ -20,7 +20,7 @@ use Rattle.ec_core.specs.declared.Statement.{Statement}
 use Rattle.ec_core.specs.declared.Statement.TheOpen.{Statement-F as Core-F}
 use Rattle.ec_core.specs.declared.Statement.TheVariants as s
 use Rattle.ec_core_laws.proofs.Bodies.{operation_small, section_small, first_small}
-use Rattle.ec_core_laws.proofs.Operations.{Known, OperationFaultless, ProcessFaultless, scope_in, first_of, named_of, process_of}
+use Rattle.ec_core_laws.proofs.Operations.{Known, OperationFaultless, ProcessFaultless, scope_in, first_of, named_of, section_of}
 use Rattle.ec_core_laws.proofs.Programs.{each_operation}
 use Rattle.ec_core_laws.proofs.Small.{Small, none_small, both_small, same_small}
 use Rattle.ec_core_laws.proofs.SmallExpressions as expressions
@@ -110,8 +110,8 @@ named_small scope h known o tree e =
 
 -- ---- process sections
 
-process_small : {classes : List Class} (scope : Scope) (h : Holder) → Known classes scope h → (p : ProcessPart) → IsPiece p.block →
-    ProcessFaultless scope h p → IsSmall (process_of scope h p)
+process_small : {classes : List Class} (scope : Scope) (h : Holder) → Known classes scope h → (p : SectionPart) → IsPiece p.block →
+    ProcessFaultless scope h p → IsSmall (section_of scope h p)
 process_small scope h known p tree e =
     let inner : Scope = in_a_process (scope_in scope h) in
     let env : Env = env_in inner (env_of_body scope h).captures in

@@ -14,7 +14,7 @@ use Rattle.ec_ast.specs.declared.Member.TheVariants as member
 use Rattle.ec_ast.specs.declared.Name.{Name}
 use Rattle.ec_ast.specs.declared.ObjectConstructor.{roll-ObjectConstructor}
 use Rattle.ec_ast.specs.declared.Operation.{roll-Operation}
-use Rattle.ec_ast.specs.declared.ProcessSection.{ProcessSection, roll-ProcessSection}
+use Rattle.ec_ast.specs.declared.Section.{Section, roll-Section}
 use Rattle.ec_ast.specs.declared.Span.{Span}
 use Rattle.ec_ast.specs.declared.Statement.{Statement, roll-Statement}
 use Rattle.ec_ast.specs.declared.Statement.TheVariants as statement
@@ -28,7 +28,7 @@ use Rattle.ec_places.proofs.Among as among
 use Rattle.ec_places.proofs.Among.{Among}
 use Rattle.ec_ast.proofs.Rolled.{Rolled, folded, folds_are_rolled}
 use Rattle.ec_ast.specs.Kinds.{ExpressionLayer, LinkLayer, MemberLayer, StatementLayer, AddendLayer, ArmLayer, BlockLayer}
-use Rattle.ec_ast.specs.Kinds.{BodyLayer, FactorLayer, ObjectLayer, OperationLayer, ProcessLayer, tree}
+use Rattle.ec_ast.specs.Kinds.{BodyLayer, FactorLayer, ObjectLayer, OperationLayer, SectionLayer, tree}
 use Rattle.ec_ast.specs.Layers as layers
 use Rattle.ec_ast.specs.Layers.{Maps}
 
@@ -104,7 +104,7 @@ module _ {ts us : List Token} where
   pub of_operation : (y : OperationLayer) → Taken ts us (numbers.block y.block) → Taken ts us (numbers.operation (roll-Operation y))
   of_operation y h = subst (Taken ts us) (sym (rolled.operation y)) h
 
-  pub of_process : (y : ProcessLayer) → Taken ts us (numbers.block y.block) → Taken ts us (numbers.process (roll-ProcessSection y))
+  pub of_process : (y : SectionLayer) → Taken ts us (numbers.block y.block) → Taken ts us (numbers.process (roll-Section y))
   of_process y h = subst (Taken ts us) (sym (rolled.process y)) h
 
 -- ---- chains
@@ -174,7 +174,7 @@ module _ {ts us : List Token} where
   of_variable is_attached name of (Some x) h =
       of_member (Member-F.Member::Variable is_attached name of (Some x)) (member.rolls-Variable is_attached name of (Some x)) h
 
-  pub of_members : (xs : List Member) (initially : Option Block) (process : Option ProcessSection) →
+  pub of_members : (xs : List Member) (initially : Option Block) (process : Option Section) →
       Taken ts us ((joined (map numbers.member xs)) ++ ((if_there (option_map numbers.block initially)) ++
       (if_there (option_map numbers.process process)))) →
       Taken ts us (numbers.body (roll-Body (record { members = xs; initially = initially; process = process })))

@@ -18,7 +18,7 @@ use Rattle.ec_ast.specs.declared.Member.TheVariants as member
 use Rattle.ec_ast.specs.declared.Name.{Name}
 use Rattle.ec_ast.specs.declared.ObjectConstructor.{ObjectConstructor}
 use Rattle.ec_ast.specs.declared.Operation.{roll-Operation}
-use Rattle.ec_ast.specs.declared.ProcessSection.{ProcessSection}
+use Rattle.ec_ast.specs.declared.Section.{Section}
 use Rattle.ec_ast.specs.declared.Statement.{Statement}
 use Rattle.ec_ast.specs.declared.Statement.TheVariants as tree_statement
 use Rattle.ec_base.specs.Stack.{below_of, top_of}
@@ -245,7 +245,7 @@ mutual
   expression (ties.parenthesised h) = in_parentheses _ (tree.rolls-Parenthesised _ _) (expression h)
   expression (ties.construct o names h) = constructed o _ _ _ _ (names_counted names) (object_nodes o) (holder h)
   expression (ties.node_at h) = form _ _ (tree.rolls-NodeAt _ _ _) (e.rolls-NodeAt _ _) (grown (expression h))
-  expression ties.node_count = form _ Core-F.NodeCount (tree.rolls-NodeCount _) e.rolls-NodeCount one
+  expression ties.node_count = form _ Core-F.NodeCount (tree.rolls-NodeCount _ _) e.rolls-NodeCount one
   expression (ties.new_vector h) = form _ _ (tree.rolls-NewVector _ _ _ _) (e.rolls-NewVector _ _ _) (grown (expression h))
   expression (ties.chain h k) = chained _ _ _ (tree.rolls-Postfix _ _) (both (expression h) (links k))
   expression (ties.creation name word c is h k) = created name word _ _ _ _ _ (expressions h) (links k)
@@ -415,7 +415,7 @@ mutual
   initially ties.no_initially = nothing
   initially (ties.initially h) = statements_of_block _ (block h)
 
-  process : {class : ℕ} {env : Env} {name : Name} {x : Option ProcessSection} {m : Made} → IsProcess class env name x m →
+  process : {class : ℕ} {env : Env} {name : Name} {x : Option Section} {m : Made} → IsProcess class env name x m →
       Weighed 0 0 m (if_there (option_map nodes.process x))
   process ties.no_process = nothing
   process (ties.process at {x = x} h) =

@@ -11,22 +11,22 @@ use Rattle.ec_ast.specs.declared.Body.{Body, roll-Body, map-Body, ind-Body}
 use Rattle.ec_ast.specs.declared.Factor.{Factor, roll-Factor, map-Factor}
 use Rattle.ec_ast.specs.declared.ObjectConstructor.{ObjectConstructor, roll-ObjectConstructor, map-ObjectConstructor}
 use Rattle.ec_ast.specs.declared.Operation.{Operation, roll-Operation, map-Operation}
-use Rattle.ec_ast.specs.declared.ProcessSection.{ProcessSection, roll-ProcessSection, map-ProcessSection}
+use Rattle.ec_ast.specs.declared.Section.{Section, roll-Section, map-Section}
 use Rattle.ec_ast.specs.declared.Expression.TheOpen.{Expression-F, Link-F, Member-F, Statement-F, Addend-F, Arm-F, Block-F}
-use Rattle.ec_ast.specs.declared.Expression.TheOpen.{Body-F, Factor-F, ObjectConstructor-F, Operation-F, ProcessSection-F}
+use Rattle.ec_ast.specs.declared.Expression.TheOpen.{Body-F, Factor-F, ObjectConstructor-F, Operation-F, Section-F}
 use Rattle.ec_check.proofs.Every.{Every, Where}
 use Rattle.ec_check.proofs.Rolled.{ExpressionLayer, LinkLayer, MemberLayer, StatementLayer, AddendLayer, ArmLayer, BlockLayer}
-use Rattle.ec_check.proofs.Rolled.{BodyLayer, FactorLayer, ObjectLayer, OperationLayer, ProcessLayer}
+use Rattle.ec_check.proofs.Rolled.{BodyLayer, FactorLayer, ObjectLayer, OperationLayer, SectionLayer}
 use Rattle.ec_check.proofs.Rolled.{expression_mapped, link_mapped, member_mapped, statement_mapped, body_mapped, block_mapped}
 use Rattle.ec_check.proofs.Rolled.{part_rolled, link_rolled, member_rolled, statement_rolled, addend_rolled, arm_rolled, block_rolled}
 use Rattle.ec_check.proofs.Rolled.{body_rolled}
-use Rattle.ec_check.proofs.Rolled.{factor_rolled, object_rolled, operation_rolled, process_rolled}
-use Rattle.ec_check.specs.Parts.{Part, Piece, StatementPart, LinkPart, call, index, FactorPart, AddendPart, ArmPart, ProcessPart}
+use Rattle.ec_check.proofs.Rolled.{factor_rolled, object_rolled, operation_rolled, section_rolled}
+use Rattle.ec_check.specs.Parts.{Part, Piece, StatementPart, LinkPart, call, index, FactorPart, AddendPart, ArmPart, SectionPart}
 use Rattle.ec_check.specs.Parts.{OperationPart, MemberPart, variable, constant, condition, operation, BodyPart, ObjectPart}
 use Rattle.ec_check.specs.Parts.{AnExpression, AStatement, ABlock}
 use Rattle.ec_check.specs.Tree.{expression_step, statement_step, block_step, link_step, member_step, body_step}
 use Rattle.ec_check.specs.Tree.{part_of, link_of, member_of, statement_of, addend_of, arm_of, block_of, body_of, factor_of}
-use Rattle.ec_check.specs.Tree.{object_of, operation_of, process_of}
+use Rattle.ec_check.specs.Tree.{object_of, operation_of, section_of}
 
 -- ---- parts of a tree
 
@@ -53,7 +53,7 @@ module _ (P : Part → Type 0) (S : StatementPart → Type 0) (B : Piece → Typ
   PieceHas b = IsPiece b × B b
 
   abbrev pub LinkHas : LinkPart → Type 0
-  LinkHas (call name arguments) = Every PartHas arguments
+  LinkHas (call name arguments marks) = Every PartHas arguments
   LinkHas (index number at) = PartHas number
 
   abbrev pub FactorHas : FactorPart → Type 0
@@ -65,7 +65,7 @@ module _ (P : Part → Type 0) (S : StatementPart → Type 0) (B : Piece → Typ
   abbrev pub ArmHas : ArmPart → Type 0
   ArmHas a = PartHas a.condition × PieceHas a.block
 
-  abbrev pub ProcessHas : ProcessPart → Type 0
+  abbrev pub ProcessHas : SectionPart → Type 0
   ProcessHas p = PieceHas p.block
 
   abbrev pub OperationHas : OperationPart → Type 0
@@ -94,7 +94,7 @@ module _ (P : Part → Type 0) (S : StatementPart → Type 0) (B : Piece → Typ
   ExpressionHas (Expression-F.Parenthesised x at) = PartHas x
   ExpressionHas (Expression-F.Constructor o) = ObjectHas o
   ExpressionHas (Expression-F.NodeAt x at word) = PartHas x
-  ExpressionHas (Expression-F.NodeCount at) = Unit {0}
+  ExpressionHas (Expression-F.NodeCount at word) = Unit {0}
   ExpressionHas (Expression-F.NewVector of x at word) = PartHas x
   ExpressionHas (Expression-F.Postfix x links) = PartHas x × Every LinkHas links
   ExpressionHas (Expression-F.Negative x at) = PartHas x
@@ -160,8 +160,8 @@ module _ (P : Part → Type 0) (S : StatementPart → Type 0) (B : Piece → Typ
   abbrev TreeOperationHas : Operation → Type 0
   TreeOperationHas x = OperationHas (operation_of x)
 
-  abbrev TreeProcessHas : ProcessSection → Type 0
-  TreeProcessHas x = ProcessHas (process_of x)
+  abbrev TreeProcessHas : Section → Type 0
+  TreeProcessHas x = ProcessHas (section_of x)
 
   -- ---- parts, each with its proof
 
@@ -232,10 +232,10 @@ module _ (P : Part → Type 0) (S : StatementPart → Type 0) (B : Piece → Typ
   bare_operation x = x.0
 
   abbrev ProcessHeld : Type 0
-  ProcessHeld = (x : ProcessSection) × TreeProcessHas x
+  ProcessHeld = (x : Section) × TreeProcessHas x
 
-  abbrev bare_process : ProcessHeld → ProcessSection
-  bare_process x = x.0
+  abbrev bare_section : ProcessHeld → Section
+  bare_section x = x.0
 
   -- ---- one layer with such parts in it
 
@@ -249,9 +249,9 @@ module _ (P : Part → Type 0) (S : StatementPart → Type 0) (B : Piece → Typ
       map-Expression
       PartHeld LinkHeld MemberHeld StatementHeld AddendHeld ArmHeld BlockHeld BodyHeld FactorHeld ObjectHeld OperationHeld
       ProcessHeld
-      Expression Link Member Statement Addend Arm Block Body Factor ObjectConstructor Operation ProcessSection
+      Expression Link Member Statement Addend Arm Block Body Factor ObjectConstructor Operation Section
       bare_part bare_link bare_member bare_statement bare_addend bare_arm bare_block bare_body bare_factor bare_object
-      bare_operation bare_process
+      bare_operation bare_section
 
   abbrev LinkWith : Type 0
   LinkWith =
@@ -263,9 +263,9 @@ module _ (P : Part → Type 0) (S : StatementPart → Type 0) (B : Piece → Typ
       map-Link
       PartHeld LinkHeld MemberHeld StatementHeld AddendHeld ArmHeld BlockHeld BodyHeld FactorHeld ObjectHeld OperationHeld
       ProcessHeld
-      Expression Link Member Statement Addend Arm Block Body Factor ObjectConstructor Operation ProcessSection
+      Expression Link Member Statement Addend Arm Block Body Factor ObjectConstructor Operation Section
       bare_part bare_link bare_member bare_statement bare_addend bare_arm bare_block bare_body bare_factor bare_object
-      bare_operation bare_process
+      bare_operation bare_section
 
   abbrev MemberWith : Type 0
   MemberWith =
@@ -277,9 +277,9 @@ module _ (P : Part → Type 0) (S : StatementPart → Type 0) (B : Piece → Typ
       map-Member
       PartHeld LinkHeld MemberHeld StatementHeld AddendHeld ArmHeld BlockHeld BodyHeld FactorHeld ObjectHeld OperationHeld
       ProcessHeld
-      Expression Link Member Statement Addend Arm Block Body Factor ObjectConstructor Operation ProcessSection
+      Expression Link Member Statement Addend Arm Block Body Factor ObjectConstructor Operation Section
       bare_part bare_link bare_member bare_statement bare_addend bare_arm bare_block bare_body bare_factor bare_object
-      bare_operation bare_process
+      bare_operation bare_section
 
   abbrev StatementWith : Type 0
   StatementWith =
@@ -291,9 +291,9 @@ module _ (P : Part → Type 0) (S : StatementPart → Type 0) (B : Piece → Typ
       map-Statement
       PartHeld LinkHeld MemberHeld StatementHeld AddendHeld ArmHeld BlockHeld BodyHeld FactorHeld ObjectHeld OperationHeld
       ProcessHeld
-      Expression Link Member Statement Addend Arm Block Body Factor ObjectConstructor Operation ProcessSection
+      Expression Link Member Statement Addend Arm Block Body Factor ObjectConstructor Operation Section
       bare_part bare_link bare_member bare_statement bare_addend bare_arm bare_block bare_body bare_factor bare_object
-      bare_operation bare_process
+      bare_operation bare_section
 
   abbrev AddendWith : Type 0
   AddendWith =
@@ -305,9 +305,9 @@ module _ (P : Part → Type 0) (S : StatementPart → Type 0) (B : Piece → Typ
       map-Addend
       PartHeld LinkHeld MemberHeld StatementHeld AddendHeld ArmHeld BlockHeld BodyHeld FactorHeld ObjectHeld OperationHeld
       ProcessHeld
-      Expression Link Member Statement Addend Arm Block Body Factor ObjectConstructor Operation ProcessSection
+      Expression Link Member Statement Addend Arm Block Body Factor ObjectConstructor Operation Section
       bare_part bare_link bare_member bare_statement bare_addend bare_arm bare_block bare_body bare_factor bare_object
-      bare_operation bare_process
+      bare_operation bare_section
 
   abbrev ArmWith : Type 0
   ArmWith =
@@ -319,9 +319,9 @@ module _ (P : Part → Type 0) (S : StatementPart → Type 0) (B : Piece → Typ
       map-Arm
       PartHeld LinkHeld MemberHeld StatementHeld AddendHeld ArmHeld BlockHeld BodyHeld FactorHeld ObjectHeld OperationHeld
       ProcessHeld
-      Expression Link Member Statement Addend Arm Block Body Factor ObjectConstructor Operation ProcessSection
+      Expression Link Member Statement Addend Arm Block Body Factor ObjectConstructor Operation Section
       bare_part bare_link bare_member bare_statement bare_addend bare_arm bare_block bare_body bare_factor bare_object
-      bare_operation bare_process
+      bare_operation bare_section
 
   abbrev BlockWith : Type 0
   BlockWith =
@@ -333,9 +333,9 @@ module _ (P : Part → Type 0) (S : StatementPart → Type 0) (B : Piece → Typ
       map-Block
       PartHeld LinkHeld MemberHeld StatementHeld AddendHeld ArmHeld BlockHeld BodyHeld FactorHeld ObjectHeld OperationHeld
       ProcessHeld
-      Expression Link Member Statement Addend Arm Block Body Factor ObjectConstructor Operation ProcessSection
+      Expression Link Member Statement Addend Arm Block Body Factor ObjectConstructor Operation Section
       bare_part bare_link bare_member bare_statement bare_addend bare_arm bare_block bare_body bare_factor bare_object
-      bare_operation bare_process
+      bare_operation bare_section
 
   abbrev BodyWith : Type 0
   BodyWith =
@@ -347,9 +347,9 @@ module _ (P : Part → Type 0) (S : StatementPart → Type 0) (B : Piece → Typ
       map-Body
       PartHeld LinkHeld MemberHeld StatementHeld AddendHeld ArmHeld BlockHeld BodyHeld FactorHeld ObjectHeld OperationHeld
       ProcessHeld
-      Expression Link Member Statement Addend Arm Block Body Factor ObjectConstructor Operation ProcessSection
+      Expression Link Member Statement Addend Arm Block Body Factor ObjectConstructor Operation Section
       bare_part bare_link bare_member bare_statement bare_addend bare_arm bare_block bare_body bare_factor bare_object
-      bare_operation bare_process
+      bare_operation bare_section
 
   abbrev FactorWith : Type 0
   FactorWith =
@@ -361,9 +361,9 @@ module _ (P : Part → Type 0) (S : StatementPart → Type 0) (B : Piece → Typ
       map-Factor
       PartHeld LinkHeld MemberHeld StatementHeld AddendHeld ArmHeld BlockHeld BodyHeld FactorHeld ObjectHeld OperationHeld
       ProcessHeld
-      Expression Link Member Statement Addend Arm Block Body Factor ObjectConstructor Operation ProcessSection
+      Expression Link Member Statement Addend Arm Block Body Factor ObjectConstructor Operation Section
       bare_part bare_link bare_member bare_statement bare_addend bare_arm bare_block bare_body bare_factor bare_object
-      bare_operation bare_process
+      bare_operation bare_section
 
   abbrev ObjectWith : Type 0
   ObjectWith =
@@ -375,9 +375,9 @@ module _ (P : Part → Type 0) (S : StatementPart → Type 0) (B : Piece → Typ
       map-ObjectConstructor
       PartHeld LinkHeld MemberHeld StatementHeld AddendHeld ArmHeld BlockHeld BodyHeld FactorHeld ObjectHeld OperationHeld
       ProcessHeld
-      Expression Link Member Statement Addend Arm Block Body Factor ObjectConstructor Operation ProcessSection
+      Expression Link Member Statement Addend Arm Block Body Factor ObjectConstructor Operation Section
       bare_part bare_link bare_member bare_statement bare_addend bare_arm bare_block bare_body bare_factor bare_object
-      bare_operation bare_process
+      bare_operation bare_section
 
   abbrev OperationWith : Type 0
   OperationWith =
@@ -389,23 +389,23 @@ module _ (P : Part → Type 0) (S : StatementPart → Type 0) (B : Piece → Typ
       map-Operation
       PartHeld LinkHeld MemberHeld StatementHeld AddendHeld ArmHeld BlockHeld BodyHeld FactorHeld ObjectHeld OperationHeld
       ProcessHeld
-      Expression Link Member Statement Addend Arm Block Body Factor ObjectConstructor Operation ProcessSection
+      Expression Link Member Statement Addend Arm Block Body Factor ObjectConstructor Operation Section
       bare_part bare_link bare_member bare_statement bare_addend bare_arm bare_block bare_body bare_factor bare_object
-      bare_operation bare_process
+      bare_operation bare_section
 
-  abbrev ProcessWith : Type 0
-  ProcessWith =
-      ProcessSection-F PartHeld LinkHeld MemberHeld StatementHeld AddendHeld ArmHeld BlockHeld BodyHeld FactorHeld ObjectHeld
+  abbrev SectionWith : Type 0
+  SectionWith =
+      Section-F PartHeld LinkHeld MemberHeld StatementHeld AddendHeld ArmHeld BlockHeld BodyHeld FactorHeld ObjectHeld
       OperationHeld ProcessHeld
 
-  abbrev bare_process_layer : ProcessWith → ProcessLayer
+  abbrev bare_process_layer : SectionWith → SectionLayer
   bare_process_layer =
-      map-ProcessSection
+      map-Section
       PartHeld LinkHeld MemberHeld StatementHeld AddendHeld ArmHeld BlockHeld BodyHeld FactorHeld ObjectHeld OperationHeld
       ProcessHeld
-      Expression Link Member Statement Addend Arm Block Body Factor ObjectConstructor Operation ProcessSection
+      Expression Link Member Statement Addend Arm Block Body Factor ObjectConstructor Operation Section
       bare_part bare_link bare_member bare_statement bare_addend bare_arm bare_block bare_body bare_factor bare_object
-      bare_operation bare_process
+      bare_operation bare_section
 
   -- ---- the induction, by what a layer has
 
@@ -425,7 +425,7 @@ module _ (P : Part → Type 0) (S : StatementPart → Type 0) (B : Piece → Typ
     parts_are (Expression-F.Parenthesised x at) = x.1
     parts_are (Expression-F.Constructor o) = o.1
     parts_are (Expression-F.NodeAt x at word) = x.1
-    parts_are (Expression-F.NodeCount at) = tt
+    parts_are (Expression-F.NodeCount at word) = tt
     parts_are (Expression-F.NewVector of x at word) = x.1
     parts_are (Expression-F.Postfix x links) = (x.1, each_held link_of LinkHas links)
     parts_are (Expression-F.Negative x at) = x.1
@@ -512,8 +512,8 @@ module _ (P : Part → Type 0) (S : StatementPart → Type 0) (B : Piece → Typ
     operation_at : (y : OperationWith) → TreeOperationHas (roll-Operation (bare_operation_layer y))
     operation_at y = subst OperationHas (sym (operation_rolled (bare_operation_layer y))) y.block.1
 
-    process_at : (y : ProcessWith) → TreeProcessHas (roll-ProcessSection (bare_process_layer y))
-    process_at y = subst ProcessHas (sym (process_rolled (bare_process_layer y))) y.block.1
+    process_at : (y : SectionWith) → TreeProcessHas (roll-Section (bare_process_layer y))
+    process_at y = subst ProcessHas (sym (section_rolled (bare_process_layer y))) y.block.1
 
     abbrev body_layer : List MemberHeld → Option BlockHeld → Option ProcessHeld → BodyWith
     body_layer ms i p = record { members = ms; initially = i; process = p }
@@ -566,8 +566,8 @@ module _ (P : Part → Type 0) (S : StatementPart → Type 0) (B : Piece → Typ
     operation_from : (x : OperationLayer) (y : OperationWith) → bare_operation_layer y ≡ x → TreeOperationHas (roll-Operation x)
     operation_from x y is = subst (λ z. TreeOperationHas (roll-Operation z)) is (operation_at y)
 
-    process_from : (x : ProcessLayer) (y : ProcessWith) → bare_process_layer y ≡ x → TreeProcessHas (roll-ProcessSection x)
-    process_from x y is = subst (λ z. TreeProcessHas (roll-ProcessSection z)) is (process_at y)
+    process_from : (x : SectionLayer) (y : SectionWith) → bare_process_layer y ≡ x → TreeProcessHas (roll-Section x)
+    process_from x y is = subst (λ z. TreeProcessHas (roll-Section z)) is (process_at y)
 
     pub part_has : (x : Expression) → TreePartHas x
     part_has =

@@ -11,7 +11,7 @@ use Rattle.ec_check.proofs.KnownTypes.{test_holds}
 use Rattle.ec_check.proofs.RangedParts.{any_of}
 use Rattle.ec_check.specs.Layers.{statement_judged}
 use Rattle.ec_check.specs.Parts.{Part, Piece, StatementPart, ArmPart, MemberPart, variable, constant, condition, operation, OperationPart}
-use Rattle.ec_check.specs.Parts.{ProcessPart, Holder}
+use Rattle.ec_check.specs.Parts.{SectionPart, Holder}
 use Rattle.ec_check.specs.Parts.{AnExpression, AStatement, ABlock, arm_judged}
 use Rattle.ec_check.specs.Places.{Env, condition_named, conditions_of, field_named, number_named}
 use Rattle.ec_check.specs.Program.{core_of}
@@ -34,7 +34,7 @@ use Rattle.ec_core.specs.declared.Statement.TheOpen.{Statement-F as Core-F}
 use Rattle.ec_core.specs.declared.Statement.TheVariants as s
 use Rattle.ec_core_laws.proofs.Bodies.{block_faultless, section_faultless, initially_faultless, object_of, conditions_fit}
 use Rattle.ec_core_laws.proofs.Bodies.{innermost_in, innermost_declared, innermost_loop, innermost_process}
-use Rattle.ec_core_laws.proofs.Operations.{Known, scope_in, first_of, named_of, process_of, OperationFaultless, ProcessFaultless}
+use Rattle.ec_core_laws.proofs.Operations.{Known, scope_in, first_of, named_of, section_of, OperationFaultless, ProcessFaultless}
 use Rattle.ec_core_laws.proofs.Programs.{each_operation}
 use Rattle.ec_core_laws.proofs.Statements.{statement_is, arm_is, block_is, statements_are, becomes}
 use Rattle.ec_core_laws.proofs.Trees as trees
@@ -370,11 +370,11 @@ in_section scope h n u =
     absurd
     (no_section (innermost (scope_in scope h)) n (subst (λ o. Usable o n) (innermost_process (scope_in scope h)) u))
 
-section_uses : {classes : List Class} (scope : Scope) (h : Holder) → Known classes scope h → (p : ProcessPart) → IsPiece p.block →
-    ProcessFaultless scope h p → UsesItsConditions classes (process_of scope h p)
+section_uses : {classes : List Class} (scope : Scope) (h : Holder) → Known classes scope h → (p : SectionPart) → IsPiece p.block →
+    ProcessFaultless scope h p → UsesItsConditions classes (section_of scope h p)
 section_uses scope h known p tree e =
     let env : Env = env_in (in_a_process (scope_in scope h)) (env_of_body scope h).captures in
-    uses scope h known (process_of scope h p) refl
+    uses scope h known (section_of scope h p) refl
     (every_weaker (Usable (innermost (in_a_process (scope_in scope h)))) (MayUse kind.Process (class_core scope h)) (in_section scope h)
     (conditions_of_block (p.block.core env)) (piece_uses p.block tree env (section_faultless scope h p e)))
 

@@ -7,7 +7,7 @@ use Rattle.ec_ast.specs.declared.Expression.{Expression, roll-Expression}
 use Rattle.ec_ast.specs.declared.Link.{Link}
 use Rattle.ec_ast.specs.declared.Member.{Member}
 use Rattle.ec_ast.specs.declared.ObjectConstructor.{ObjectConstructor, out-ObjectConstructor, roll-out-ObjectConstructor}
-use Rattle.ec_ast.specs.declared.ProcessSection.{ProcessSection}
+use Rattle.ec_ast.specs.declared.Section.{Section}
 use Rattle.ec_ast.specs.declared.Statement.{Statement, roll-Statement}
 use Rattle.ec_base.specs.Stack.{top_of, below_of}
 use Rattle.ec_check.specs.Parts.{Made, nothing_made, both_made}
@@ -252,7 +252,7 @@ target_parts y ks link number top n c =
 
 -- ---- bodies
 
-pub body_is : (xs : List Member) (i : Option Block) (p : Option ProcessSection) →
+pub body_is : (xs : List Member) (i : Option Block) (p : Option Section) →
     nodes.body (roll-Body (record { members = xs; initially = i; process = p }))
     ≡ all_of (map nodes.member xs) + (if_there (option_map nodes.block i) + if_there (option_map nodes.process p))
 body_is xs None None = rolled.body (record { members = xs; initially = None; process = None })

@@ -53,7 +53,7 @@ kinds = record {
   factor = Targets;
   object = Targets;
   operation = Targets;
-  process = Targets;
+  section = Targets;
 }
 
 -- a chain, by its last link
@@ -133,7 +133,7 @@ steps = record {
   factor = λ f. f.value.within;
   object = λ o. o.body;
   operation = λ o. o.block;
-  process = λ p. p.block;
+  section = λ p. p.block;
 }
 
 abbrev pub targets_in : Expression → Targets

@@ -26,7 +26,7 @@ use Rattle.ec_ast.specs.declared.Number.{Number}
 use Rattle.ec_ast.specs.declared.ObjectConstructor.{ObjectConstructor, out-ObjectConstructor}
 use Rattle.ec_ast.specs.declared.Operation.{roll-Operation}
 use Rattle.ec_ast.specs.declared.Parameter.{Parameter}
-use Rattle.ec_ast.specs.declared.ProcessSection.{ProcessSection, roll-ProcessSection}
+use Rattle.ec_ast.specs.declared.Section.{Section, roll-Section}
 use Rattle.ec_ast.specs.declared.Span.{Span}
 use Rattle.ec_ast.specs.declared.Statement.{Statement}
 use Rattle.ec_ast.specs.declared.Statement.TheVariants as tree_statement
@@ -126,8 +126,8 @@ first_of scope h variables statements = record {
 }
 
 -- the process section, told at the word `process`
-abbrev pub process_of : ℕ → Name → Span → List StaticType → CoreBlock → CoreOperation
-process_of class name at variables block = record {
+abbrev pub section_of : ℕ → Name → Span → List StaticType → CoreBlock → CoreOperation
+section_of class name at variables block = record {
   class = class;
   kind = kind.Process;
   name = name.text;
@@ -178,7 +178,7 @@ mutual
     -- at the word `at`
     node_at : {env : Env} {x : Expression} {y : CoreExpression} {m : Made} {at word : Span} → TiedExpression env x y m →
         TiedExpression env (tree.NodeAt x at word) (e.NodeAt y word.from) m
-    node_count : {env : Env} {at : Span} → TiedExpression env (tree.NodeCount at) e.NodeCount nothing_made
+    node_count : {env : Env} {at word : Span} → TiedExpression env (tree.NodeCount at word) e.NodeCount nothing_made
     -- at the word `create`
     new_vector : {env : Env} {of : TypeName} {x : Expression} {y : CoreExpression} {m : Made} {at word : Span} →
         TiedExpression env x y m →
@@ -384,16 +384,16 @@ mutual
     initially : {env : Env} {x : Block} {ys : List CoreStatement} {ts : List StaticType} {m : Made} →
         TiedBlock env x (core_block (record { statements = ys })) ts m → IsInitially env (Some x) ys ts m
 
-  pub data IsProcess : ℕ → Env → Name → Option ProcessSection → Made → Type 0 where
+  pub data IsProcess : ℕ → Env → Name → Option Section → Made → Type 0 where
     no_process : {class : ℕ} {env : Env} {name : Name} → IsProcess class env name None nothing_made
     process : {class : ℕ} {env : Env} {name : Name} (at : Span) {x : Block} {y : CoreBlock} {ts : List StaticType} {m : Made} →
         TiedBlock (record { scope = in_a_process env.scope; captures = env.captures; numbers = []; count = 0 }) x y ts m →
-        IsProcess class env name (Some (roll-ProcessSection (record { block = x; at = at })))
-        (both_made (just (process_of class name at ts y)) m)
+        IsProcess class env name (Some (roll-Section (record { block = x; at = at })))
+        (both_made (just (section_of class name at ts y)) m)
 
   -- What a class or an object constructor makes, in the scope around it: its class; operation 0; then what stands in its body.
   pub data TiedHolder : Scope → Holder → Body → Made → Type 0 where
-    holder : {scope : Scope} {h : Holder} {members : List Member} {first : Option Block} {section : Option ProcessSection}
+    holder : {scope : Scope} {h : Holder} {members : List Member} {first : Option Block} {section : Option Section}
         {types : List StaticType} {fields : List Field} {stores ys : List CoreStatement} {ts : List StaticType} {conditions : ℕ}
         {m n k : Made} → length types ≡ length (captures_of scope h) →
         AreMembers (number_of scope h) (in_body scope h) members fields stores conditions m → IsInitially (in_body scope h) first ys ts n →

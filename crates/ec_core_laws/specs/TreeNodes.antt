@@ -25,7 +25,7 @@ kinds = record {
   factor = ℕ;
   object = ℕ;
   operation = ℕ;
-  process = ℕ;
+  section = ℕ;
 }
 
 abbrev pub expression_nodes : ExpressionOf kinds → ℕ
@@ -90,7 +90,7 @@ steps = record {
   factor = λ f. 1 + f.value;
   object = λ o. 1 + o.body;
   operation = λ o. o.block;
-  process = λ p. p.block;
+  section = λ p. p.block;
 }
 
 abbrev pub nodes_in : Expression → ℕ

@@ -35,7 +35,7 @@ kinds = record {
   factor = Numbers;
   object = Numbers;
   operation = Numbers;
-  process = Numbers;
+  section = Numbers;
 }
 
 abbrev pub expression_numbers : ExpressionOf kinds → Numbers
@@ -100,7 +100,7 @@ steps = record {
   factor = λ f. f.value;
   object = λ o. o.body;
   operation = λ o. o.block;
-  process = λ p. p.block;
+  section = λ p. p.block;
 }
 
 abbrev pub numbers_of : Expression → Numbers

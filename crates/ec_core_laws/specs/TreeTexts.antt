@@ -27,7 +27,7 @@ kinds = record {
   factor = Texts;
   object = Texts;
   operation = Texts;
-  process = Texts;
+  section = Texts;
 }
 
 abbrev pub expression_texts : ExpressionOf kinds → Texts
@@ -92,7 +92,7 @@ steps = record {
   factor = λ f. f.value;
   object = λ o. o.body;
   operation = λ o. o.block;
-  process = λ p. p.block;
+  section = λ p. p.block;
 }
 
 abbrev pub texts_of_tree : Expression → Texts

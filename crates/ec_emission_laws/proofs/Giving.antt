@@ -91,7 +91,7 @@ called_gives None name xs result h =
 
 link_core_gives : (env : Env) (before : Receiver) (k : LinkPart) → is_some (link_type env.scope before (link_judged k)) ≡ true →
     link_gives_value (link_core env before k) ≡ true
-link_core_gives env before (call name xs) h = called_gives _ name (cores_of env xs) (result_of (callee env.scope before name)) h
+link_core_gives env before (call name xs marks) h = called_gives _ name (cores_of env xs) (result_of (callee env.scope before name)) h
 link_core_gives env before (index number at) h =
     link_is Bool expression_gives link_gives addend_gives factor_gives (l.Element (number.core env) _ at.from)
     (CoreLink-F.Element (number.core env) _ at.from) (l.rolls-Element (number.core env) _ at.from)
@@ -166,7 +166,7 @@ module _ (S : StatementPart → Type 0) (B : Piece → Type 0) where
 
   links_sound : (ls : List LinkPart) → Every (trees.LinkHas PartDrops S B) ls → Every SoundLink ls
   links_sound [] h = tt
-  links_sound (call name xs ∷ ls) h = (args_sound xs h.0, links_sound ls h.1)
+  links_sound (call name xs marks ∷ ls) h = (args_sound xs h.0, links_sound ls h.1)
   links_sound (index number at ∷ ls) h = (part_sound number h.0.0, links_sound ls h.1)
 
   layer_gives : (x : AnExpression) → Has x → (env : Env) → SoundScope env.scope →

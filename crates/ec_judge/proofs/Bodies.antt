@@ -12,11 +12,11 @@ use Rattle.ec_judge.specs.Walks.{walked, noting, in_scope, over_finished, over_p
 use Rattle.ec_judge.proofs.Layers.{same_walked}
 use Rattle.ec_judge.proofs.Walks.{walk_of, walked_walked}
 use Rattle.ec_rules.specs.Captures.{captured, uses_outside}
-use Rattle.ec_rules.specs.Judging.{body_finished, body_with, finished_if, first_finished, member_finished, members_finished}
+use Rattle.ec_rules.specs.Judging.{blocks_finished, body_finished, body_with, clause_finished, finished_if, first_finished, member_finished, members_finished}
 use Rattle.ec_rules.specs.Judging.{process_finished, process_with, uses_within}
 use Rattle.ec_rules.specs.Limits.{many_fields, measured}
 use Rattle.ec_rules.specs.Members.{fields_of, object_with, parameter_entries, result_entries, scope_of, scope_of_operation}
-use Rattle.ec_rules.specs.Parts.{Finished, Holder, variable, constant, operation, OperationPart, Part, ProcessPart, faults_in}
+use Rattle.ec_rules.specs.Parts.{Finished, Holder, variable, constant, operation, OperationPart, Part, SectionPart, faults_in}
 use Rattle.ec_rules.specs.Parts.{uses_in, value_in}
 use Rattle.ec_rules.specs.Rules.{noted}
 use Rattle.ec_rules.specs.declared.StaticFault.{StaticFault}
@@ -55,27 +55,33 @@ variable_field_done scope is_monitored is_attached name of (Some p) = refl
 
 -- ---- operations
 
--- The scope behind the block of an operation is that of its body.
-pub operation_walk : (w end : Walk) (o : OperationPart) (inner outer : Scope) (faults : Faults) →
+-- The scope behind the block of an operation and its failure clause is that of its body.
+pub operation_walk : (w first end : Walk) (o : OperationPart) (inner outer : Scope) (faults : Faults) →
     inner ≡ scope_of_operation w.scope o →
-    end ≡ over_finished (in_scope w inner) (o.block inner) →
+    first ≡ over_finished (in_scope w inner) (o.block inner) →
+    end ≡ over_finished first (clause_finished inner o.failure) →
     outer ≡ forgetting (length (locals_of (innermost w.scope))) end.scope →
-    faults ≡ noted end.faults (operation_faults outer.table o (o.block inner).done) →
+    faults ≡ noted end.faults (operation_faults outer.table o (blocks_finished inner o).done) →
     walk_of outer faults end.uses ≡ over_finished w (member_finished w.scope false (operation o))
 unfolding walked
-operation_walk w end o inner outer faults i e s f =
-    let first = scope_of_operation w.scope o in
-    let block = o.block first in
-    let rules = operation_faults w.scope.table o block.done in
-    rw (f, s, e, i)
-    (ap (λ scope. walk_of scope (noted (noted w.faults block.faults) rules) (w.uses ++ block.uses))
+operation_walk w first end o inner outer faults i b e s f =
+    let heading = scope_of_operation w.scope o in
+    let block = o.block heading in
+    let clause = clause_finished heading o.failure in
+    let blocks = blocks_finished heading o in
+    let rules = operation_faults w.scope.table o blocks.done in
+    let uses = (w.uses ++ block.uses) ++ clause.uses in
+    rw (f, s, e, b, i)
+    (ap (λ scope. walk_of scope (noted (noted (noted w.faults block.faults) clause.faults) rules) uses)
     (forgetting-declaring (parameter_entries w.scope o.parameters ++ result_entries w.scope o.result) w.scope)
-    ∙ ap (λ faults. walk_of w.scope faults (w.uses ++ block.uses)) (noted_joined w.faults block.faults rules)
-    ∙ ap (λ fs. walk_of w.scope (noted w.faults fs) (w.uses ++ block.uses)) (simp (append-nil, append_assoc) refl))
+    ∙ ap (λ faults. walk_of w.scope (noted faults rules) uses) (noted_joined w.faults block.faults clause.faults)
+    ∙ ap (λ faults. walk_of w.scope faults uses) (noted_joined w.faults blocks.faults rules)
+    ∙ ap (walk_of w.scope (noted w.faults (blocks.faults ++ rules))) (append_assoc w.uses block.uses clause.uses)
+    ∙ ap (λ fs. walk_of w.scope (noted w.faults fs) (w.uses ++ blocks.uses)) (simp (append-nil, append_assoc) refl))
 
 -- ---- bodies
 
-pub process_walk : (w end : Walk) (p : ProcessPart) (inner : Scope) (faults : Faults) →
+pub process_walk : (w end : Walk) (p : SectionPart) (inner : Scope) (faults : Faults) →
     inner ≡ in_a_process w.scope →
     end ≡ over_finished (in_scope w inner) (p.block inner) →
     faults ≡ noted end.faults (measured end.scope.table p.at 0 (p.block inner).done) →
@@ -98,7 +104,7 @@ module _ (w : Walk) (holder : Holder) where
   abbrev behind_first : Walk
   behind_first = walk_of w.scope (noted w.faults (first_of.faults ++ own)) (w.uses ++ first_of.uses)
 
-  by_process : (p : Option ProcessPart) →
+  by_process : (p : Option SectionPart) →
       behind_process behind_first p
       ≡ in_scope (over_finished w (body_with w.scope.table holder.name.at first_of (process_finished w.scope p))) (scope_behind p w.scope)
   unfolding walked
@@ -132,7 +138,7 @@ module _ (w : Walk) (holder : Holder) where
 
 -- ---- object constructors and classes
 
-left_behind : (p : Option ProcessPart) (scope : Scope) (object : Object) → outside (scope_behind p (within scope object)) ≡ scope
+left_behind : (p : Option SectionPart) (scope : Scope) (object : Object) → outside (scope_behind p (within scope object)) ≡ scope
 left_behind None scope object = outside-within scope object
 left_behind (Some p) scope object = outside-process (within scope object) ∙ outside-within scope object
 

@@ -45,9 +45,9 @@ module _ (scope : Scope) (needed : Bool) where
   pub along_faults : (p : Passed) (ls : List LinkPart) → faults_along scope needed p ls ≡ faults_of_links scope p.at needed p.before
       p.is_clean ls
   along_faults p [] = refl
-  along_faults p (call name arguments ∷ ls) =
-      ap (λ fs. faults_of_link scope p.at (needed || not (is_last ls)) p.before (call name arguments) ++ fs)
-      (along_faults (passed scope (needed || not (is_last ls)) p (call name arguments)) ls)
+  along_faults p (call name arguments marks ∷ ls) =
+      ap (λ fs. faults_of_link scope p.at (needed || not (is_last ls)) p.before (call name arguments marks) ++ fs)
+      (along_faults (passed scope (needed || not (is_last ls)) p (call name arguments marks)) ls)
   along_faults p (index number at ∷ ls) =
       ap (λ fs. faults_of_link scope p.at (needed || not (is_last ls)) p.before (index number at) ++ fs)
       (along_faults (passed scope (needed || not (is_last ls)) p (index number at)) ls)
@@ -59,15 +59,15 @@ module _ (scope : Scope) (needed : Bool) where
   pub along_type : (p : Passed) (ls : List LinkPart) →
       type_of_receiver scope (passed_all scope needed p ls).before ≡ type_of_links scope p.at needed p.before p.is_clean ls
   along_type p [] = refl
-  along_type p (call name arguments ∷ ls) = along_type (passed scope (needed || not (is_last ls)) p (call name arguments)) ls
+  along_type p (call name arguments marks ∷ ls) = along_type (passed scope (needed || not (is_last ls)) p (call name arguments marks)) ls
   along_type p (index number at ∷ ls) = along_type (passed scope (needed || not (is_last ls)) p (index number at)) ls
 
   pub along_nodes : (p : Passed) (ls : List LinkPart) →
       plus (passed_all scope needed p ls).nodes 0 ≡ plus p.nodes (total (link_nodes scope) ls)
   along_nodes p [] = refl
-  along_nodes p (call name arguments ∷ ls) =
-      along_nodes (passed scope (needed || not (is_last ls)) p (call name arguments)) ls
-      ∙ plus_assoc p.nodes (link_nodes scope (call name arguments)) (total (link_nodes scope) ls)
+  along_nodes p (call name arguments marks ∷ ls) =
+      along_nodes (passed scope (needed || not (is_last ls)) p (call name arguments marks)) ls
+      ∙ plus_assoc p.nodes (link_nodes scope (call name arguments marks)) (total (link_nodes scope) ls)
   along_nodes p (index number at ∷ ls) =
       along_nodes (passed scope (needed || not (is_last ls)) p (index number at)) ls
       ∙ plus_assoc p.nodes (link_nodes scope (index number at)) (total (link_nodes scope) ls)
@@ -76,13 +76,13 @@ module _ (scope : Scope) (needed : Bool) where
   typed_height : (at : Span) (ls : List LinkPart) (of : Option StaticType) (clean : Bool) (h n : ℕ) →
       (passed_all scope needed (passed_of at (Typed of) clean h n) ls).height ≡ links_height scope h ls
   typed_height at [] of clean h n = refl
-  typed_height at (call name arguments ∷ ls) of clean h n = typed_height at ls _ _ _ _
+  typed_height at (call name arguments marks ∷ ls) of clean h n = typed_height at ls _ _ _ _
   typed_height at (index number i ∷ ls) of clean h n = typed_height at ls _ _ _ _
 
   own_height : (at : Span) (clean : Bool) (h n : ℕ) (ls : List LinkPart) →
       (passed_all scope needed (passed_of at Own clean h n) ls).height ≡ links_height scope h ls
   own_height at clean h n [] = refl
-  own_height at clean h n (call name arguments ∷ ls) = typed_height at ls _ _ _ _
+  own_height at clean h n (call name arguments marks ∷ ls) = typed_height at ls _ _ _ _
   own_height at clean h n (index number i ∷ ls) = typed_height at ls _ _ _ _
 
   -- a creation begins with a call
@@ -97,7 +97,7 @@ module _ (scope : Scope) (needed : Bool) where
   along_height at Own clean part n ls h = own_height at clean (value_in scope part).height n ls
   along_height at (Typed of) clean part n ls h = typed_height at ls of clean (value_in scope part).height n
   along_height at (Creation class) clean part n [] h = refl
-  along_height at (Creation class) clean part n (call name arguments ∷ ls) h = typed_height at ls _ _ _ _
+  along_height at (Creation class) clean part n (call name arguments marks ∷ ls) h = typed_height at ls _ _ _ _
   along_height at (Creation class) clean part n (index number i ∷ ls) h = cc
 
   name_begins : (is_there is_class : Bool) (name : Name) (of : Option StaticType) (ls : List LinkPart) → is_creation ls ≡ is_there →

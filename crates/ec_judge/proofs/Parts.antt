@@ -51,11 +51,11 @@ no_name_negated (form.NameAlone own) name e = cc
 no_name_negated form.Other name e = cc
 
 no_name_of_chain : (f : form.Form) (links : List LinkPart) (name : Name) → form_of_chain f links ≡ form.NameAlone name → ⊥
-no_name_of_chain (form.NameAlone own) (call word arguments ∷ []) name e =
+no_name_of_chain (form.NameAlone own) (call word arguments marks ∷ []) name e =
     elim (is_word word (codes "create")) as (λ b. (if b then form.Created own else form.Other) ≡ form.NameAlone name → ⊥)
     [ true ↦ λ h. cc | false ↦ λ h. cc ] e
 no_name_of_chain (form.NameAlone own) [] name e = cc
-no_name_of_chain (form.NameAlone own) (call word arguments ∷ l ∷ ls) name e = cc
+no_name_of_chain (form.NameAlone own) (call word arguments marks ∷ l ∷ ls) name e = cc
 no_name_of_chain (form.NameAlone own) (index number at ∷ ls) name e = cc
 no_name_of_chain (form.Literal of) links name e = cc
 no_name_of_chain form.Negated links name e = cc
@@ -79,7 +79,7 @@ layer_of_name scope (Expression-F.Nil at) name e = cc
 layer_of_name scope (Expression-F.Itself at) name e = cc
 layer_of_name scope (Expression-F.Constructor object) name e = cc
 layer_of_name scope (Expression-F.NodeAt p at word) name e = cc
-layer_of_name scope (Expression-F.NodeCount at) name e = cc
+layer_of_name scope (Expression-F.NodeCount at word) name e = cc
 layer_of_name scope (Expression-F.NewVector of p at word) name e = cc
 layer_of_name scope (Expression-F.View p of at) name e = cc
 layer_of_name scope (Expression-F.IsFixed p at) name e = cc

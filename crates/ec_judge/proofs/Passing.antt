@@ -24,15 +24,15 @@ use Rattle.ec_rules.specs.declared.judged.Judged.{Judged}
 
 -- ---- a call
 
-module _ (w v : Walk) (p : Passed) (name : Name) (arguments : List Part) (found : List Judged) (e : v ≡ over_parts w arguments)
-    (f : found ≡ values_in w.scope arguments) where
-  pub call_value : call_found v.scope p name found ≡ link_found w.scope p (call name arguments)
+module _ (w v : Walk) (p : Passed) (name : Name) (arguments : List Part) (marks : List (Option Carried)) (found : List Judged)
+    (e : v ≡ over_parts w arguments) (f : found ≡ values_in w.scope arguments) where
+  pub call_value : call_found v.scope p name found ≡ link_found w.scope p (call name arguments marks)
   unfolding walked
   call_value = ap (λ (t : Walk). call_found t.scope p name found) e ∙ ap (call_found w.scope p name) f
 
   pub call_walk : (needed : Bool) (faults : Faults) →
       faults ≡ noted v.faults (call_faults v.scope.table needed (callee v.scope p.before name) name found) →
-      walk_of v.scope faults v.uses ≡ over_link w needed p (call name arguments)
+      walk_of v.scope faults v.uses ≡ over_link w needed p (call name arguments marks)
   unfolding walked
   call_walk needed faults n =
       behind_operands w v arguments (call_faults w.scope.table needed (callee w.scope p.before name) name (values_in w.scope arguments))

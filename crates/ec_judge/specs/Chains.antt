@@ -88,7 +88,7 @@ index_found scope p number = record {
 }
 
 abbrev pub link_found : Scope → Passed → LinkPart → Linked
-link_found scope p (call name arguments) = call_found scope p name (values_in scope arguments)
+link_found scope p (call name arguments marks) = call_found scope p name (values_in scope arguments)
 link_found scope p (index number at) = index_found scope p (value_in scope number)
 
 abbrev pub over_link : Walk → Bool → Passed → LinkPart → Walk

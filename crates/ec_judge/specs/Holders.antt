@@ -23,7 +23,7 @@ use Rattle.ec_rules.specs.Lists.{each, each_of, plus}
 use Rattle.ec_rules.specs.Members.{conditions_in, constant_type, operations_in, parameter_names}
 use Rattle.ec_rules.specs.Names.{unknown_in_operation, unknown_in_parameters, unknown_types}
 use Rattle.ec_rules.specs.Operands.{must_conform}
-use Rattle.ec_rules.specs.Parts.{Holder, HolderOf, MemberPart, OperationPart, ProcessPart}
+use Rattle.ec_rules.specs.Parts.{Holder, HolderOf, MemberPart, OperationPart, SectionPart}
 use Rattle.ec_rules.specs.Rules.{fault_if}
 use Rattle.ec_rules.specs.Statements.{done_both}
 use Rattle.ec_rules.specs.Tree.{body_of, member_of}
@@ -40,6 +40,7 @@ use Rattle.ec_types.specs.Scopes.{in_a_process, written_in}
 abbrev pub holder_with : {B : Type 0} → Heading → B → HolderOf B
 holder_with heading body = record {
   name = heading.name.now;
+  is_immutable = heading.is_immutable;
   is_monitored = heading.is_monitored;
   parameters = heading.parameters.now;
   body = body;
@@ -98,11 +99,11 @@ operation_faults table o done =
 
 -- ---- bodies
 
-abbrev pub scope_behind : Option ProcessPart → Scope → Scope
+abbrev pub scope_behind : Option SectionPart → Scope → Scope
 scope_behind None scope = scope
 scope_behind (Some p) scope = in_a_process scope
 
-abbrev pub behind_process : Walk → Option ProcessPart → Walk
+abbrev pub behind_process : Walk → Option SectionPart → Walk
 behind_process walk None = walk
 behind_process walk (Some p) =
     in_scope (over_finished walk (process_with walk.scope.table p.at (p.block (in_a_process walk.scope)))) (in_a_process walk.scope)

@@ -10,17 +10,17 @@ ghost use Rattle.ec_rules.specs.Judging as judging;
 ghost use Rattle.ec_rules.specs.Lists.{each_of};
 ghost use Rattle.ec_rules.specs.Members as members;
 ghost use Rattle.ec_rules.specs.Operands as operands;
-ghost use Rattle.ec_rules.specs.Parts.{value_in};
+ghost use Rattle.ec_rules.specs.Parts.{block_in, value_in};
 ghost use Rattle.ec_rules.specs.Rules.{fault_unless, noted};
 ghost use Rattle.ec_rules.specs.Statements as statements;
 ghost use Rattle.ec_rules.specs.declared.Rule.TheVariants.{ExitOutside};
 ghost use Rattle.ec_rules.specs.declared.operands.Wanted.TheVariants as wanted;
-ghost use Rattle.ec_rules.specs.Tree.{arm_of, block_of, part_of, statement_of};
+ghost use Rattle.ec_rules.specs.Tree.{arm_of, block_of, part_of, section_of, statement_of};
 ghost use Rattle.ec_types.specs.Scopes.{declaring, is_in_loop, written_in};
 
 use crate::expressions::{judge, value};
 use crate::walk::Walk;
-use ec_ast::{Arm, Block, Expression, Name, Span, Statement, TypeName};
+use ec_ast::{Arm, Block, Expression, Name, Section, Span, Statement, TypeName};
 use ec_rules::Rule;
 use ec_rules::assignments::is_assignable;
 use ec_rules::faults::Faults;
@@ -470,6 +470,24 @@ pub(crate) fn judge_block_if<'a>(
     match block {
         None => Ok(Done::nothing()),
         Some(block) => judge_block(alloc, walk, block),
+    }
+}
+
+/// The block of a section, where there is one.
+#[cycle(walk)]
+pub(crate) fn judge_section_if<'a>(
+    alloc: Global,
+    walk: &mut Walk<'a>,
+    section: &'a Option<Section>,
+) -> Result<Done, AllocError>
+    ensures done { IfOk result
+        (λ d. d ≡ (judging.finished_if walk.old.scope (block_in (option_map section_of section.now))).done) }
+    ensures walk { OnOk result
+        (walk.new ≡ spec.over_finished walk.old (judging.finished_if walk.old.scope (block_in (option_map section_of section.now)))) }
+{
+    match section {
+        None => Ok(Done::nothing()),
+        Some(s) => judge_block(alloc, walk, &s.block),
     }
 }
 

@@ -9,9 +9,10 @@ ghost use Rattle.ec_rules.specs.Judging as judging;
 ghost use Rattle.ec_rules.specs.Limits.{long_literal};
 ghost use Rattle.ec_rules.specs.Names as names;
 ghost use Rattle.ec_rules.specs.Operands as operands;
+ghost use Rattle.ec_rules.specs.Parts as parts;
 ghost use Rattle.ec_rules.specs.Parts.{value_in, values_in};
 ghost use Rattle.ec_rules.specs.Rules.{fault_unless, noted};
-ghost use Rattle.ec_rules.specs.Tree.{part_of, factor_of, addend_of, layer_of};
+ghost use Rattle.ec_rules.specs.Tree.{part_of, argument_of, factor_of, addend_of, layer_of};
 ghost use Rattle.ec_rules.specs.Types as kinds;
 ghost use Rattle.ec_rules.specs.declared.Rule.TheVariants.{UnknownName, Mismatch};
 ghost use Rattle.ec_rules.specs.declared.operands.Wanted.TheVariants as wanted;
@@ -20,7 +21,7 @@ ghost use Rattle.ec_types.specs.Scopes.{find, innermost, written_in};
 use crate::holders::judge_object;
 use crate::links::{look_head, look_links};
 use crate::walk::{Looked, Walk};
-use ec_ast::{Addend, Comparison, Expression, Factor, Literal, Name, Span, TypeName};
+use ec_ast::{Addend, Argument, Comparison, Expression, Factor, Literal, Name, Span, TypeName};
 use ec_rules::Rule;
 use ec_rules::calls::type_of_self;
 use ec_rules::captures::note_use;
@@ -84,6 +85,23 @@ pub fn values<'a>(
     Ok(found)
 }
 
+/// The same of arguments.
+#[cycle(walk)]
+pub(crate) fn argument_values<'a>(
+    alloc: Global,
+    walk: &mut Walk<'a>,
+    arguments: &'a [Argument],
+) -> Result<Vec<Judged>, AllocError>
+    ensures value { IfOk result (λ vs. vs.items ≡ values_in walk.old.scope (parts.values_of (map argument_of arguments.now))) }
+    ensures walk { OnOk result (walk.new ≡ spec.over_parts walk.old (parts.values_of (map argument_of arguments.now))) }
+{
+    let mut found = Vec::new(alloc);
+    for a in arguments {
+        found.push(value(alloc, walk, &a.value)?)?;
+    }
+    Ok(found)
+}
+
 #[cycle(walk)]
 fn look<'a>(
     alloc: Global,
@@ -99,7 +117,7 @@ fn look<'a>(
         Expression::Literal(l) => Ok(look_literal(walk, l)),
         Expression::Truth(_, at) => Ok(look_plain(*at, BOOLEAN)),
         Expression::Nil(at) => Ok(look_plain(*at, StaticType::Nil)),
-        Expression::NodeCount(at) => Ok(look_plain(*at, INTEGER)),
+        Expression::NodeCount(at, _) => Ok(look_plain(*at, INTEGER)),
         Expression::Itself(at) => Ok(look_itself(walk, *at)),
         Expression::Variable(name) => look_variable(walk, name),
         Expression::Parenthesised(e, at) => look_parenthesised(alloc, walk, e.get(), *at),

@@ -12,20 +12,20 @@ ghost use Rattle.ec_rules.specs.Judging as judging;
 ghost use Rattle.ec_rules.specs.Limits as limits;
 ghost use Rattle.ec_rules.specs.Lists.{each, total};
 ghost use Rattle.ec_rules.specs.Members as bodies;
-ghost use Rattle.ec_rules.specs.Parts.{operation};
+ghost use Rattle.ec_rules.specs.Parts.{block_in, operation};
 ghost use Rattle.ec_rules.specs.Rules.{fault_unless, noted};
 ghost use Rattle.ec_rules.specs.Statements as statements;
-ghost use Rattle.ec_rules.specs.Tree.{class_part, member_of, object_of, operation_of, process_of};
+ghost use Rattle.ec_rules.specs.Tree.{class_part, member_of, object_of, operation_of, section_of};
 ghost use Rattle.ec_rules.specs.declared.Rule.TheVariants.{Condition};
 ghost use Rattle.ec_types.specs.Scopes.{declaring, written_in};
 
 use crate::blocks::{
-    conforms_if, constant_conforms, done_if, entry, judge_block, judge_block_if, value_if,
+    conforms_if, constant_conforms, done_if, entry, judge_block, judge_section_if, value_if,
 };
 use crate::expressions::value;
 use crate::walk::{Looked, Walk};
 use ec_ast::{
-    Body, Class, Member, Name, ObjectConstructor, Operation, Parameter, ProcessSection, TypeName,
+    Body, Class, Member, Name, ObjectConstructor, Operation, Parameter, Section, TypeName,
 };
 use ec_rules::Rule;
 use ec_rules::captures::{Uses, captured, use_outside};
@@ -48,6 +48,7 @@ use std::alloc::{AllocError, Global};
 #[derive(Clone, Copy)]
 pub struct Heading<'a> {
     pub name: &'a Name,
+    pub is_immutable: bool,
     pub is_monitored: bool,
     pub parameters: &'a [Parameter],
     pub end_name: &'a Name,
@@ -60,6 +61,7 @@ impl<'a> Heading<'a> {
     {
         Heading {
             name: &class.name,
+            is_immutable: class.is_immutable,
             is_monitored: class.is_monitored,
             parameters: class.parameters.as_slice(),
             end_name: &class.end_name,
@@ -72,6 +74,7 @@ impl<'a> Heading<'a> {
     {
         Heading {
             name: &object.name,
+            is_immutable: object.is_immutable,
             is_monitored: object.is_monitored,
             parameters: &[],
             end_name: &object.end_name,
@@ -584,6 +587,27 @@ fn operation_rules(
     known_operation(faults, table, parameters, &o.result)
 }
 
+/// A failure clause, where there is one. It counts one tree node besides what stands in it.
+#[cycle(walk)]
+fn judge_clause_if<'a>(
+    alloc: Global,
+    walk: &mut Walk<'a>,
+    clause: &'a Option<Section>,
+) -> Result<Done, AllocError>
+    ensures done { IfOk result
+        (λ d. d ≡ (judging.clause_finished walk.old.scope (block_in (option_map section_of clause.now))).done) }
+    ensures walk { OnOk result
+        (walk.new ≡ spec.over_finished walk.old (judging.clause_finished walk.old.scope (block_in (option_map section_of clause.now)))) }
+{
+    match clause {
+        None => Ok(Done::nothing()),
+        Some(s) => {
+            let done = judge_block(alloc, walk, &s.block)?;
+            Ok(declaration(done))
+        }
+    }
+}
+
 /// An operation is measured by itself, and counts nothing in operation 0.
 #[cycle(walk)]
 fn judge_operation<'a>(
@@ -597,7 +621,8 @@ fn judge_operation<'a>(
 {
     let count = walk.scope.local_count();
     declare_heading(alloc, &mut walk.scope, o.parameters.as_slice(), &o.result)?;
-    let done = judge_block(alloc, walk, &o.block)?;
+    let block = judge_block(alloc, walk, &o.block)?;
+    let done = block.both(judge_clause_if(alloc, walk, &o.failure)?);
     walk.scope.forget_locals(count);
     operation_rules(alloc, &mut walk.faults, &walk.scope.table, o, &done)?;
     Ok(Done::nothing())
@@ -628,9 +653,9 @@ fn judge_members<'a>(
 fn judge_process<'a>(
     alloc: Global,
     walk: &mut Walk<'a>,
-    process: &'a Option<ProcessSection>,
+    process: &'a Option<Section>,
 ) -> Result<(), AllocError>
-    ensures { OnOk result (walk.new ≡ holders.behind_process walk.old (option_map process_of process.now)) }
+    ensures { OnOk result (walk.new ≡ holders.behind_process walk.old (option_map section_of process.now)) }
 {
     match process {
         None => Ok(()),
@@ -654,7 +679,7 @@ fn judge_body<'a>(
     ensures { OnOk result (walk.new ≡ holders.behind_body walk.old (holders.holder_of heading.entry body.now)) }
 {
     let members = judge_members(alloc, walk, body.members.as_slice(), heading.is_monitored)?;
-    let first = members.both(judge_block_if(alloc, walk, &body.initially)?);
+    let first = members.both(judge_section_if(alloc, walk, &body.initially)?);
     measured_operation(
         &mut walk.faults,
         &walk.scope.table,

@@ -8,7 +8,7 @@ ghost use Rattle.ec_rules.specs.Forms.{form_seen};
 ghost use Rattle.ec_rules.specs.Rules.{noted};
 ghost use Rattle.ec_rules.specs.Tree.{part_of, link_of};
 
-use crate::expressions::{value, values};
+use crate::expressions::{argument_values, value};
 use crate::walk::{Looked, Walk, type_unless};
 use ec_ast::{Expression, Link, Name, Span};
 use ec_rules::calls::{
@@ -228,7 +228,7 @@ fn find_link<'a>(
 {
     match link {
         Link::Call(name, arguments) => {
-            let found = values(alloc, walk, arguments.as_slice())?;
+            let found = argument_values(alloc, walk, arguments.as_slice())?;
             find_call(
                 &mut walk.faults,
                 &walk.scope,

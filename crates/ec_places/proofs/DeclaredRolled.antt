@@ -12,13 +12,13 @@ use Rattle.ec_ast.specs.declared.Factor.{Factor, roll-Factor, map-Factor, fold-r
 use Rattle.ec_ast.specs.declared.ObjectConstructor.{ObjectConstructor, roll-ObjectConstructor, map-ObjectConstructor}
 use Rattle.ec_ast.specs.declared.ObjectConstructor.{fold-roll-ObjectConstructor}
 use Rattle.ec_ast.specs.declared.Operation.{Operation, roll-Operation, map-Operation, fold-roll-Operation, fold-Operation}
-use Rattle.ec_ast.specs.declared.ProcessSection.{ProcessSection, roll-ProcessSection, map-ProcessSection, fold-roll-ProcessSection}
+use Rattle.ec_ast.specs.declared.Section.{Section, roll-Section, map-Section, fold-roll-Section}
 use Rattle.ec_ast.specs.declared.Expression.TheOpen.{Expression-F, Link-F, Member-F, Statement-F, Addend-F, Arm-F, Block-F}
-use Rattle.ec_ast.specs.declared.Expression.TheOpen.{Body-F, Factor-F, ObjectConstructor-F, Operation-F, ProcessSection-F}
+use Rattle.ec_ast.specs.declared.Expression.TheOpen.{Body-F, Factor-F, ObjectConstructor-F, Operation-F, Section-F}
 use Rattle.ec_types.specs.Declarations.{MemberPart, BodyPart, expression_step, link_step, member_step, statement_step}
 use Rattle.ec_types.specs.Declarations.{addend_step}
 use Rattle.ec_types.specs.Declarations.{arm_step, block_step, body_step, factor_step, constructor_step, operation_step}
-use Rattle.ec_types.specs.Declarations.{process_step}
+use Rattle.ec_types.specs.Declarations.{section_step}
 use Rattle.ec_types.specs.Declarations.{in_expression, in_link, in_member, in_statement, in_addend, in_arm, in_block, in_body}
 use Rattle.ec_types.specs.Declarations.{in_factor, in_constructor, in_process}
 use Rattle.ec_types.specs.declared.conform.declared.Declarations.{Declarations}
@@ -27,51 +27,51 @@ use Rattle.ec_types.specs.declared.conform.declared.Declarations.{Declarations}
 
 abbrev pub ExpressionLayer : Type 0
 ExpressionLayer =
-    Expression-F Expression Link Member Statement Addend Arm Block Body Factor ObjectConstructor Operation ProcessSection
+    Expression-F Expression Link Member Statement Addend Arm Block Body Factor ObjectConstructor Operation Section
 
 abbrev pub LinkLayer : Type 0
 LinkLayer =
-    Link-F Expression Link Member Statement Addend Arm Block Body Factor ObjectConstructor Operation ProcessSection
+    Link-F Expression Link Member Statement Addend Arm Block Body Factor ObjectConstructor Operation Section
 
 abbrev pub MemberLayer : Type 0
 MemberLayer =
-    Member-F Expression Link Member Statement Addend Arm Block Body Factor ObjectConstructor Operation ProcessSection
+    Member-F Expression Link Member Statement Addend Arm Block Body Factor ObjectConstructor Operation Section
 
 abbrev pub StatementLayer : Type 0
 StatementLayer =
-    Statement-F Expression Link Member Statement Addend Arm Block Body Factor ObjectConstructor Operation ProcessSection
+    Statement-F Expression Link Member Statement Addend Arm Block Body Factor ObjectConstructor Operation Section
 
 abbrev pub AddendLayer : Type 0
 AddendLayer =
-    Addend-F Expression Link Member Statement Addend Arm Block Body Factor ObjectConstructor Operation ProcessSection
+    Addend-F Expression Link Member Statement Addend Arm Block Body Factor ObjectConstructor Operation Section
 
 abbrev pub ArmLayer : Type 0
 ArmLayer =
-    Arm-F Expression Link Member Statement Addend Arm Block Body Factor ObjectConstructor Operation ProcessSection
+    Arm-F Expression Link Member Statement Addend Arm Block Body Factor ObjectConstructor Operation Section
 
 abbrev pub BlockLayer : Type 0
 BlockLayer =
-    Block-F Expression Link Member Statement Addend Arm Block Body Factor ObjectConstructor Operation ProcessSection
+    Block-F Expression Link Member Statement Addend Arm Block Body Factor ObjectConstructor Operation Section
 
 abbrev pub BodyLayer : Type 0
 BodyLayer =
-    Body-F Expression Link Member Statement Addend Arm Block Body Factor ObjectConstructor Operation ProcessSection
+    Body-F Expression Link Member Statement Addend Arm Block Body Factor ObjectConstructor Operation Section
 
 abbrev pub FactorLayer : Type 0
 FactorLayer =
-    Factor-F Expression Link Member Statement Addend Arm Block Body Factor ObjectConstructor Operation ProcessSection
+    Factor-F Expression Link Member Statement Addend Arm Block Body Factor ObjectConstructor Operation Section
 
 abbrev pub ObjectLayer : Type 0
 ObjectLayer =
-    ObjectConstructor-F Expression Link Member Statement Addend Arm Block Body Factor ObjectConstructor Operation ProcessSection
+    ObjectConstructor-F Expression Link Member Statement Addend Arm Block Body Factor ObjectConstructor Operation Section
 
 abbrev pub OperationLayer : Type 0
 OperationLayer =
-    Operation-F Expression Link Member Statement Addend Arm Block Body Factor ObjectConstructor Operation ProcessSection
+    Operation-F Expression Link Member Statement Addend Arm Block Body Factor ObjectConstructor Operation Section
 
-abbrev pub ProcessLayer : Type 0
-ProcessLayer =
-    ProcessSection-F Expression Link Member Statement Addend Arm Block Body Factor ObjectConstructor Operation ProcessSection
+abbrev pub SectionLayer : Type 0
+SectionLayer =
+    Section-F Expression Link Member Statement Addend Arm Block Body Factor ObjectConstructor Operation Section
 
 -- ---- what it declares
 
@@ -81,7 +81,7 @@ in_operation =
     Declarations Declarations MemberPart Declarations Declarations Declarations Declarations BodyPart Declarations Declarations
     MemberPart Declarations
     expression_step link_step member_step statement_step addend_step arm_step block_step body_step factor_step constructor_step
-    operation_step process_step
+    operation_step section_step
 
 abbrev pub expression_declared : ExpressionLayer →
     Expression-F
@@ -89,7 +89,7 @@ abbrev pub expression_declared : ExpressionLayer →
     MemberPart Declarations
 expression_declared =
     map-Expression
-    Expression Link Member Statement Addend Arm Block Body Factor ObjectConstructor Operation ProcessSection
+    Expression Link Member Statement Addend Arm Block Body Factor ObjectConstructor Operation Section
     Declarations Declarations MemberPart Declarations Declarations Declarations Declarations BodyPart Declarations Declarations
     MemberPart Declarations
     in_expression in_link in_member in_statement in_addend in_arm in_block in_body in_factor in_constructor in_operation in_process
@@ -100,7 +100,7 @@ expression_declares x =
     Declarations Declarations MemberPart Declarations Declarations Declarations Declarations BodyPart Declarations Declarations
     MemberPart Declarations
     expression_step link_step member_step statement_step addend_step arm_step block_step body_step factor_step constructor_step
-    operation_step process_step x
+    operation_step section_step x
 
 abbrev pub link_declared : LinkLayer →
     Link-F
@@ -108,7 +108,7 @@ abbrev pub link_declared : LinkLayer →
     MemberPart Declarations
 link_declared =
     map-Link
-    Expression Link Member Statement Addend Arm Block Body Factor ObjectConstructor Operation ProcessSection
+    Expression Link Member Statement Addend Arm Block Body Factor ObjectConstructor Operation Section
     Declarations Declarations MemberPart Declarations Declarations Declarations Declarations BodyPart Declarations Declarations
     MemberPart Declarations
     in_expression in_link in_member in_statement in_addend in_arm in_block in_body in_factor in_constructor in_operation in_process
@@ -119,7 +119,7 @@ link_declares x =
     Declarations Declarations MemberPart Declarations Declarations Declarations Declarations BodyPart Declarations Declarations
     MemberPart Declarations
     expression_step link_step member_step statement_step addend_step arm_step block_step body_step factor_step constructor_step
-    operation_step process_step x
+    operation_step section_step x
 
 abbrev pub member_declared : MemberLayer →
     Member-F
@@ -127,7 +127,7 @@ abbrev pub member_declared : MemberLayer →
     MemberPart Declarations
 member_declared =
     map-Member
-    Expression Link Member Statement Addend Arm Block Body Factor ObjectConstructor Operation ProcessSection
+    Expression Link Member Statement Addend Arm Block Body Factor ObjectConstructor Operation Section
     Declarations Declarations MemberPart Declarations Declarations Declarations Declarations BodyPart Declarations Declarations
     MemberPart Declarations
     in_expression in_link in_member in_statement in_addend in_arm in_block in_body in_factor in_constructor in_operation in_process
@@ -138,7 +138,7 @@ member_declares x =
     Declarations Declarations MemberPart Declarations Declarations Declarations Declarations BodyPart Declarations Declarations
     MemberPart Declarations
     expression_step link_step member_step statement_step addend_step arm_step block_step body_step factor_step constructor_step
-    operation_step process_step x
+    operation_step section_step x
 
 abbrev pub statement_declared : StatementLayer →
     Statement-F
@@ -146,7 +146,7 @@ abbrev pub statement_declared : StatementLayer →
     MemberPart Declarations
 statement_declared =
     map-Statement
-    Expression Link Member Statement Addend Arm Block Body Factor ObjectConstructor Operation ProcessSection
+    Expression Link Member Statement Addend Arm Block Body Factor ObjectConstructor Operation Section
     Declarations Declarations MemberPart Declarations Declarations Declarations Declarations BodyPart Declarations Declarations
     MemberPart Declarations
     in_expression in_link in_member in_statement in_addend in_arm in_block in_body in_factor in_constructor in_operation in_process
@@ -157,7 +157,7 @@ statement_declares x =
     Declarations Declarations MemberPart Declarations Declarations Declarations Declarations BodyPart Declarations Declarations
     MemberPart Declarations
     expression_step link_step member_step statement_step addend_step arm_step block_step body_step factor_step constructor_step
-    operation_step process_step x
+    operation_step section_step x
 
 abbrev pub addend_declared : AddendLayer →
     Addend-F
@@ -165,7 +165,7 @@ abbrev pub addend_declared : AddendLayer →
     MemberPart Declarations
 addend_declared =
     map-Addend
-    Expression Link Member Statement Addend Arm Block Body Factor ObjectConstructor Operation ProcessSection
+    Expression Link Member Statement Addend Arm Block Body Factor ObjectConstructor Operation Section
     Declarations Declarations MemberPart Declarations Declarations Declarations Declarations BodyPart Declarations Declarations
     MemberPart Declarations
     in_expression in_link in_member in_statement in_addend in_arm in_block in_body in_factor in_constructor in_operation in_process
@@ -176,7 +176,7 @@ addend_declares x =
     Declarations Declarations MemberPart Declarations Declarations Declarations Declarations BodyPart Declarations Declarations
     MemberPart Declarations
     expression_step link_step member_step statement_step addend_step arm_step block_step body_step factor_step constructor_step
-    operation_step process_step x
+    operation_step section_step x
 
 abbrev pub arm_declared : ArmLayer →
     Arm-F
@@ -184,7 +184,7 @@ abbrev pub arm_declared : ArmLayer →
     MemberPart Declarations
 arm_declared =
     map-Arm
-    Expression Link Member Statement Addend Arm Block Body Factor ObjectConstructor Operation ProcessSection
+    Expression Link Member Statement Addend Arm Block Body Factor ObjectConstructor Operation Section
     Declarations Declarations MemberPart Declarations Declarations Declarations Declarations BodyPart Declarations Declarations
     MemberPart Declarations
     in_expression in_link in_member in_statement in_addend in_arm in_block in_body in_factor in_constructor in_operation in_process
@@ -195,7 +195,7 @@ arm_declares x =
     Declarations Declarations MemberPart Declarations Declarations Declarations Declarations BodyPart Declarations Declarations
     MemberPart Declarations
     expression_step link_step member_step statement_step addend_step arm_step block_step body_step factor_step constructor_step
-    operation_step process_step x
+    operation_step section_step x
 
 abbrev pub block_declared : BlockLayer →
     Block-F
@@ -203,7 +203,7 @@ abbrev pub block_declared : BlockLayer →
     MemberPart Declarations
 block_declared =
     map-Block
-    Expression Link Member Statement Addend Arm Block Body Factor ObjectConstructor Operation ProcessSection
+    Expression Link Member Statement Addend Arm Block Body Factor ObjectConstructor Operation Section
     Declarations Declarations MemberPart Declarations Declarations Declarations Declarations BodyPart Declarations Declarations
     MemberPart Declarations
     in_expression in_link in_member in_statement in_addend in_arm in_block in_body in_factor in_constructor in_operation in_process
@@ -214,7 +214,7 @@ block_declares x =
     Declarations Declarations MemberPart Declarations Declarations Declarations Declarations BodyPart Declarations Declarations
     MemberPart Declarations
     expression_step link_step member_step statement_step addend_step arm_step block_step body_step factor_step constructor_step
-    operation_step process_step x
+    operation_step section_step x
 
 abbrev pub body_declared : BodyLayer →
     Body-F
@@ -222,7 +222,7 @@ abbrev pub body_declared : BodyLayer →
     MemberPart Declarations
 body_declared =
     map-Body
-    Expression Link Member Statement Addend Arm Block Body Factor ObjectConstructor Operation ProcessSection
+    Expression Link Member Statement Addend Arm Block Body Factor ObjectConstructor Operation Section
     Declarations Declarations MemberPart Declarations Declarations Declarations Declarations BodyPart Declarations Declarations
     MemberPart Declarations
     in_expression in_link in_member in_statement in_addend in_arm in_block in_body in_factor in_constructor in_operation in_process
@@ -233,7 +233,7 @@ body_declares x =
     Declarations Declarations MemberPart Declarations Declarations Declarations Declarations BodyPart Declarations Declarations
     MemberPart Declarations
     expression_step link_step member_step statement_step addend_step arm_step block_step body_step factor_step constructor_step
-    operation_step process_step x
+    operation_step section_step x
 
 abbrev pub factor_declared : FactorLayer →
     Factor-F
@@ -241,7 +241,7 @@ abbrev pub factor_declared : FactorLayer →
     MemberPart Declarations
 factor_declared =
     map-Factor
-    Expression Link Member Statement Addend Arm Block Body Factor ObjectConstructor Operation ProcessSection
+    Expression Link Member Statement Addend Arm Block Body Factor ObjectConstructor Operation Section
     Declarations Declarations MemberPart Declarations Declarations Declarations Declarations BodyPart Declarations Declarations
     MemberPart Declarations
     in_expression in_link in_member in_statement in_addend in_arm in_block in_body in_factor in_constructor in_operation in_process
@@ -252,7 +252,7 @@ factor_declares x =
     Declarations Declarations MemberPart Declarations Declarations Declarations Declarations BodyPart Declarations Declarations
     MemberPart Declarations
     expression_step link_step member_step statement_step addend_step arm_step block_step body_step factor_step constructor_step
-    operation_step process_step x
+    operation_step section_step x
 
 abbrev pub object_declared : ObjectLayer →
     ObjectConstructor-F
@@ -260,7 +260,7 @@ abbrev pub object_declared : ObjectLayer →
     MemberPart Declarations
 object_declared =
     map-ObjectConstructor
-    Expression Link Member Statement Addend Arm Block Body Factor ObjectConstructor Operation ProcessSection
+    Expression Link Member Statement Addend Arm Block Body Factor ObjectConstructor Operation Section
     Declarations Declarations MemberPart Declarations Declarations Declarations Declarations BodyPart Declarations Declarations
     MemberPart Declarations
     in_expression in_link in_member in_statement in_addend in_arm in_block in_body in_factor in_constructor in_operation in_process
@@ -271,7 +271,7 @@ object_declares x =
     Declarations Declarations MemberPart Declarations Declarations Declarations Declarations BodyPart Declarations Declarations
     MemberPart Declarations
     expression_step link_step member_step statement_step addend_step arm_step block_step body_step factor_step constructor_step
-    operation_step process_step x
+    operation_step section_step x
 
 abbrev pub operation_declared : OperationLayer →
     Operation-F
@@ -279,7 +279,7 @@ abbrev pub operation_declared : OperationLayer →
     MemberPart Declarations
 operation_declared =
     map-Operation
-    Expression Link Member Statement Addend Arm Block Body Factor ObjectConstructor Operation ProcessSection
+    Expression Link Member Statement Addend Arm Block Body Factor ObjectConstructor Operation Section
     Declarations Declarations MemberPart Declarations Declarations Declarations Declarations BodyPart Declarations Declarations
     MemberPart Declarations
     in_expression in_link in_member in_statement in_addend in_arm in_block in_body in_factor in_constructor in_operation in_process
@@ -290,23 +290,23 @@ operation_declares x =
     Declarations Declarations MemberPart Declarations Declarations Declarations Declarations BodyPart Declarations Declarations
     MemberPart Declarations
     expression_step link_step member_step statement_step addend_step arm_step block_step body_step factor_step constructor_step
-    operation_step process_step x
+    operation_step section_step x
 
-abbrev pub process_declared : ProcessLayer →
-    ProcessSection-F
+abbrev pub process_declared : SectionLayer →
+    Section-F
     Declarations Declarations MemberPart Declarations Declarations Declarations Declarations BodyPart Declarations Declarations
     MemberPart Declarations
 process_declared =
-    map-ProcessSection
-    Expression Link Member Statement Addend Arm Block Body Factor ObjectConstructor Operation ProcessSection
+    map-Section
+    Expression Link Member Statement Addend Arm Block Body Factor ObjectConstructor Operation Section
     Declarations Declarations MemberPart Declarations Declarations Declarations Declarations BodyPart Declarations Declarations
     MemberPart Declarations
     in_expression in_link in_member in_statement in_addend in_arm in_block in_body in_factor in_constructor in_operation in_process
 
-pub process_declares : (x : ProcessLayer) → in_process (roll-ProcessSection x) ≡ process_step (process_declared x)
+pub process_declares : (x : SectionLayer) → in_process (roll-Section x) ≡ section_step (process_declared x)
 process_declares x =
-    fold-roll-ProcessSection
+    fold-roll-Section
     Declarations Declarations MemberPart Declarations Declarations Declarations Declarations BodyPart Declarations Declarations
     MemberPart Declarations
     expression_step link_step member_step statement_step addend_step arm_step block_step body_step factor_step constructor_step
-    operation_step process_step x
+    operation_step section_step x

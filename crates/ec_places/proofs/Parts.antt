@@ -14,7 +14,7 @@ use Rattle.ec_ast.specs.declared.Member.TheVariants as member
 use Rattle.ec_ast.specs.declared.Name.{Name}
 use Rattle.ec_ast.specs.declared.ObjectConstructor.{roll-ObjectConstructor}
 use Rattle.ec_ast.specs.declared.Operation.{roll-Operation}
-use Rattle.ec_ast.specs.declared.ProcessSection.{ProcessSection, roll-ProcessSection}
+use Rattle.ec_ast.specs.declared.Section.{Section, roll-Section}
 use Rattle.ec_ast.specs.declared.Span.{Span}
 use Rattle.ec_ast.specs.declared.Statement.{Statement, roll-Statement}
 use Rattle.ec_ast.specs.declared.Statement.TheVariants as statement
@@ -23,14 +23,14 @@ use Rattle.ec_types.specs.Declarations.{joined, if_there, within_members, in_exp
 use Rattle.ec_types.specs.Declarations.{in_addend, in_arm}
 use Rattle.ec_types.specs.Declarations.{in_block, in_body, in_factor, in_constructor, in_process}
 use Rattle.ec_types.specs.Declarations.{expression_step, link_step, member_step, statement_step, addend_step, arm_step}
-use Rattle.ec_types.specs.Declarations.{block_step, body_step, factor_step, constructor_step, operation_step, process_step}
+use Rattle.ec_types.specs.Declarations.{block_step, body_step, factor_step, constructor_step, operation_step, section_step}
 use Rattle.ec_types.specs.declared.conform.declared.DeclaredType.{DeclaredType}
 use Rattle.ec_lexer.specs.declared.token.Token.{Token}
 use Rattle.ec_parser.specs.Chains.{or_of, and_of, sum_of, term_of, postfix_of}
 use Rattle.ec_places.proofs.Among.{Among}
 use Rattle.ec_places.proofs.DeclaredRolled.{ExpressionLayer, LinkLayer, MemberLayer, StatementLayer, AddendLayer, ArmLayer}
 use Rattle.ec_places.proofs.DeclaredRolled.{BlockLayer}
-use Rattle.ec_places.proofs.DeclaredRolled.{BodyLayer, FactorLayer, ObjectLayer, OperationLayer, ProcessLayer, in_operation}
+use Rattle.ec_places.proofs.DeclaredRolled.{BodyLayer, FactorLayer, ObjectLayer, OperationLayer, SectionLayer, in_operation}
 use Rattle.ec_places.proofs.DeclaredRolled.{expression_declared, link_declared, member_declared, statement_declared}
 use Rattle.ec_places.proofs.DeclaredRolled.{addend_declared}
 use Rattle.ec_places.proofs.DeclaredRolled.{arm_declared, block_declared, body_declared, factor_declared, object_declared}
@@ -91,8 +91,8 @@ module _ {ts us : List Token} where
       Among ts us (operation_step (operation_declared y)).within.types → Among ts us (in_operation (roll-Operation y)).within.types
   of_operation y h = subst (λ d. Among ts us d.within.types) (sym (operation_declares y)) h
 
-  pub of_process : (y : ProcessLayer) →
-      Among ts us (process_step (process_declared y)).types → Among ts us (in_process (roll-ProcessSection y)).types
+  pub of_process : (y : SectionLayer) →
+      Among ts us (section_step (process_declared y)).types → Among ts us (in_process (roll-Section y)).types
   of_process y h = subst (λ d. Among ts us d.types) (sym (process_declares y)) h
 
 -- ---- chains
@@ -162,7 +162,7 @@ module _ {ts us : List Token} where
   of_variable is_attached name of (Some x) h =
       of_member (Member-F.Member::Variable is_attached name of (Some x)) (member.rolls-Variable is_attached name of (Some x)) h
 
-  pub of_members : (xs : List Member) (initially : Option Block) (process : Option ProcessSection) →
+  pub of_members : (xs : List Member) (initially : Option Block) (process : Option Section) →
       Among ts us ((within_members (map in_member xs)).types ++ ((if_there (option_map in_block initially)).types ++
       (if_there (option_map in_process process)).types)) →
       Among ts us (in_body (roll-Body (record { members = xs; initially = initially; process = process }))).within.types

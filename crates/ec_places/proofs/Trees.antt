@@ -13,7 +13,7 @@ use Rattle.ec_ast.specs.declared.Link.TheVariants as link
 use Rattle.ec_ast.specs.declared.Member.{Member}
 use Rattle.ec_ast.specs.declared.Member.TheVariants as m
 use Rattle.ec_ast.specs.declared.ObjectConstructor.{ObjectConstructor}
-use Rattle.ec_ast.specs.declared.ProcessSection.{ProcessSection}
+use Rattle.ec_ast.specs.declared.Section.{Section}
 use Rattle.ec_ast.specs.declared.Statement.{Statement}
 use Rattle.ec_ast.specs.declared.Statement.TheVariants as s
 use Rattle.ec_types.specs.Declarations.{joined, if_there, within_members, in_expression, in_link, in_member, in_statement}
@@ -44,7 +44,7 @@ mutual
   primary (IsPrimary.object h) = of_expression _ (form.rolls-Constructor _) (object h)
   primary (IsPrimary.node_at e f g i h j) =
       of_expression _ (form.rolls-NodeAt _ _ _) (passed (passed (passed (passed (past (expr h) (passed arrived))))))
-  primary (IsPrimary.node_count e f g) = of_expression _ (form.rolls-NodeCount _) (passed (passed (passed arrived)))
+  primary (IsPrimary.node_count e f g) = of_expression _ (form.rolls-NodeCount _ _) (passed (passed (passed arrived)))
   primary (IsPrimary.vector e f g i of j k l n h o) =
       of_expression _ (form.rolls-NewVector _ _ _ _)
       (passed (passed (passed (passed (and_then (type of) (passed (passed (passed (passed (past (expr h) (passed arrived)))))))))))
@@ -184,7 +184,7 @@ mutual
   initially IsInitially.no_initially = arrived
   initially (IsInitially.initially e h f g) = passed (past (of_block _ (block h)) (passed (passed arrived)))
 
-  process : {ts us : List Token} {x : Option ProcessSection} → IsProcess ts us x →
+  process : {ts us : List Token} {x : Option Section} → IsProcess ts us x →
       Among ts us (if_there (option_map in_process x)).types
   process IsProcess.no_process = arrived
   process (IsProcess.process e h f g) = passed (of_process _ (past (of_block _ (block h)) (passed (passed arrived))))

@@ -10,24 +10,25 @@ use Rattle.ec_ast.specs.declared.Member.TheVariants as m
 use Rattle.ec_ast.specs.declared.Statement.{Statement}
 use Rattle.ec_ast.specs.declared.Factor.{Factor, out-Factor}
 use Rattle.ec_ast.specs.declared.Addend.{Addend, out-Addend}
+use Rattle.ec_ast.specs.declared.Argument.{Argument, out-Argument}
 use Rattle.ec_ast.specs.declared.Arm.{Arm, out-Arm}
 use Rattle.ec_ast.specs.declared.Block.{Block, out-Block}
 use Rattle.ec_ast.specs.declared.Body.{Body, out-Body}
 use Rattle.ec_ast.specs.declared.Operation.{Operation, out-Operation}
 use Rattle.ec_ast.specs.declared.ObjectConstructor.{ObjectConstructor, out-ObjectConstructor}
-use Rattle.ec_ast.specs.declared.ProcessSection.{ProcessSection, out-ProcessSection}
-use Rattle.ec_rules.specs.Judging.{expression_part, link_part, member_part, statement_part, addend_part, arm_part}
-use Rattle.ec_rules.specs.Judging.{block_piece, body_part, factor_part, object_part, operation_part, process_part}
-use Rattle.ec_rules.specs.Tree.{part_of, link_of, member_of, statement_of, addend_of, arm_of, steps, parts}
-use Rattle.ec_rules.specs.Tree.{block_of, body_of, factor_of, object_of, operation_of, process_of, layer_of, statement_layer}
-use Rattle.ec_ast.specs.Layers.{addend_mapped, arm_mapped, block_mapped, factor_mapped, object_mapped, operation_mapped}
-use Rattle.ec_ast.specs.Layers.{process_mapped, body_with}
-use Rattle.ec_ast.proofs.Rolled.{Rolled, folds_are_rolled, expression_stepped, statement_stepped, addend_stepped}
+use Rattle.ec_ast.specs.declared.Section.{Section, out-Section}
+use Rattle.ec_rules.specs.Judging.{expression_part, link_part, member_part, statement_part, addend_part, argument_part, arm_part}
+use Rattle.ec_rules.specs.Judging.{block_piece, body_part, factor_part, object_part, operation_part, section_part}
+use Rattle.ec_rules.specs.Tree.{part_of, link_of, member_of, statement_of, addend_of, argument_of, arm_of, steps, parts}
+use Rattle.ec_rules.specs.Tree.{block_of, body_of, factor_of, object_of, operation_of, section_of, layer_of, statement_layer}
+use Rattle.ec_ast.specs.Layers.{addend_mapped, argument_mapped, arm_mapped, block_mapped, factor_mapped, object_mapped, operation_with}
+use Rattle.ec_ast.specs.Layers.{section_mapped, body_with}
+use Rattle.ec_ast.proofs.Rolled.{Rolled, folds_are_rolled, expression_stepped, statement_stepped, addend_stepped, argument_stepped}
 use Rattle.ec_ast.proofs.Rolled.{arm_stepped, block_stepped, body_stepped, factor_stepped, object_stepped}
-use Rattle.ec_ast.proofs.Rolled.{operation_stepped, process_stepped, link_has, member_has}
+use Rattle.ec_ast.proofs.Rolled.{operation_stepped, section_stepped, link_has, member_has}
 
 pub rolled : Rolled steps parts
-unfolding part_of link_of member_of statement_of addend_of arm_of block_of body_of factor_of object_of operation_of process_of
+unfolding part_of link_of member_of statement_of addend_of argument_of arm_of block_of body_of factor_of object_of operation_of section_of
 rolled = folds_are_rolled steps
 
 pub part_is_layer : (x : Expression) → part_of x ≡ expression_part (layer_of x)
@@ -38,7 +39,7 @@ statement_is_layer = statement_stepped rolled
 
 -- ---- links
 
-pub call_link : (name : Name) (xs : List Expression) → link_of (l.Call name xs) ≡ link_part (Link-F.Call name (map part_of xs))
+pub call_link : (name : Name) (xs : List Argument) → link_of (l.Call name xs) ≡ link_part (Link-F.Call name (map argument_of xs))
 call_link name xs = link_has rolled (l.Call name xs) (Link-F.Call name xs) (l.rolls-Call name xs)
 
 pub index_link : (x : Expression) (at : Span) → link_of (l.Index x at) ≡ link_part (Link-F.Index (part_of x) at)
@@ -73,16 +74,19 @@ factor_step = factor_stepped rolled
 pub addend_step : (x : Addend) → addend_of x ≡ addend_part (addend_mapped parts (out-Addend x))
 addend_step = addend_stepped rolled
 
+pub argument_step : (x : Argument) → argument_of x ≡ argument_part (argument_mapped parts (out-Argument x))
+argument_step = argument_stepped rolled
+
 pub arm_step : (x : Arm) → arm_of x ≡ arm_part (arm_mapped parts (out-Arm x))
 arm_step = arm_stepped rolled
 
 pub block_step : (x : Block) → block_of x ≡ block_piece (block_mapped parts (out-Block x))
 block_step = block_stepped rolled
 
-pub process_section_step : (x : ProcessSection) → process_of x ≡ process_part (process_mapped parts (out-ProcessSection x))
-process_section_step = process_stepped rolled
+pub process_section_step : (x : Section) → section_of x ≡ section_part (section_mapped parts (out-Section x))
+process_section_step = section_stepped rolled
 
-pub operation_step : (x : Operation) → operation_of x ≡ operation_part (operation_mapped parts (out-Operation x))
+pub operation_step : (x : Operation) → operation_of x ≡ operation_part (operation_with parts (out-Operation x))
 operation_step = operation_stepped rolled
 
 pub object_constructor_step : (x : ObjectConstructor) → object_of x ≡ object_part (object_mapped parts (out-ObjectConstructor x))

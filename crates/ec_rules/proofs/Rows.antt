@@ -54,12 +54,17 @@ nothing at = expression_part (Expression-F.Nil (span at))
 abbrev chain : Part → List LinkPart → Part
 chain head links = expression_part (Expression-F.Postfix head links)
 
+-- a call with these arguments, none of which goes along
+abbrev called : Name → List Part → LinkPart
+called name arguments = parts.call name arguments (map (λ e. None) arguments)
+
 abbrev block : List AStatement → Piece
 block statements = block_piece (record { statements = map statement_part statements })
 
 abbrev holder : List ℕ → ℕ → Bool → List Parameter → List MemberPart → List AStatement → ℕ → Holder
 holder name at is_monitored parameters members statements end_at = record {
   name = word name at;
+  is_immutable = false;
   is_monitored = is_monitored;
   parameters = parameters;
   body = record { members = members; initially = Some (block statements); process = None };
@@ -75,6 +80,7 @@ operation name at parameters result statements end_at = parts.operation (record 
   parameters = parameters;
   result = result;
   block = block statements;
+  failure = None;
   end_name = word name end_at;
 })
 
@@ -193,14 +199,14 @@ left_of_a_chain = refl
 
 -- stdout.putstring[5.asstring]
 integer_as_string : faults_with main_alone
-    (main (Statement-F.Print (chain (number 9) (parts.call (word (codes "asstring") 11) [] ∷ [])) (span 6) ∷ []) ∷ []) ≡ []
+    (main (Statement-F.Print (chain (number 9) (called (word (codes "asstring") 11) [] ∷ [])) (span 6) ∷ []) ∷ []) ≡ []
 unfolding expression_part statement_part block_piece
 integer_as_string = refl
 
 -- stdout.putstring[nil.asString]
 nil_has_no_operation :
     faults_with main_alone
-    (main (Statement-F.Print (chain (nothing 9) (parts.call (word (codes "asString") 11) [] ∷ [])) (span 6) ∷ []) ∷ [])
+    (main (Statement-F.Print (chain (nothing 9) (called (word (codes "asString") 11) [] ∷ [])) (span 6) ∷ []) ∷ [])
     ≡ fault broken.NoOperation (span 11)
 unfolding expression_part statement_part block_piece
 nil_has_no_operation = refl
@@ -257,9 +263,9 @@ with_operation statements =
 
 -- self.f (self).F
 own_operation :
-    faults_with with_f (with_operation (Statement-F.Invoke (chain (itself 11) (parts.call (word (codes "f") 13) [] ∷ []))
+    faults_with with_f (with_operation (Statement-F.Invoke (chain (itself 11) (called (word (codes "f") 13) [] ∷ []))
     ∷ Statement-F.Invoke
-    (chain (expression_part (Expression-F.Parenthesised (itself 15) (span 14))) (parts.call (word (codes "F") 17) [] ∷ [])) ∷
+    (chain (expression_part (Expression-F.Parenthesised (itself 15) (span 14))) (called (word (codes "F") 17) [] ∷ [])) ∷
     []) ∷ [])
     ≡ []
 unfolding expression_part statement_part block_piece
@@ -268,7 +274,7 @@ own_operation = refl
 -- assert self.f: a value is needed
 no_result :
     faults_with with_f
-    (with_operation (Statement-F.Assert (chain (itself 11) (parts.call (word (codes "f") 13) [] ∷ [])) (span 10) ∷ []) ∷ [])
+    (with_operation (Statement-F.Assert (chain (itself 11) (called (word (codes "f") 13) [] ∷ [])) (span 10) ∷ []) ∷ [])
     ≡ fault broken.Arity (span 13)
 unfolding expression_part statement_part block_piece
 no_result = refl
@@ -279,7 +285,7 @@ exported_alone :
     (parts.operation
     (record { name = word (codes "f") 6; parameters = []; result = None; block = block []; end_name = word (codes "g") 8 }) ∷
     [])
-    (Statement-F.Invoke (chain (variable (codes "main") 11) (parts.call (word (codes "f") 13) [] ∷ [])) ∷ []) 90)) ∷ [])
+    (Statement-F.Invoke (chain (variable (codes "main") 11) (called (word (codes "f") 13) [] ∷ [])) ∷ []) 90)) ∷ [])
     ≡ fault broken.EndName (span 8) ++ fault broken.NoOperation (span 13)
 unfolding expression_part statement_part block_piece
 exported_alone = refl
@@ -294,13 +300,14 @@ creations :
       of = None;
       value = class (record {
         name = word (codes "C") 4;
+        is_immutable = false;
         is_monitored = false;
         parameters = [];
         body = record { members = parts.condition (word (codes "k") 5) ∷ []; initially = None; process = None };
         end_name = word (codes "D") 6;
       });
     } ∷ constant (codes "c") 8 None
-    (chain (variable (codes "c") 10) (parts.call (word (codes "create") 12) (number 14 ∷ []) ∷ [])) ∷ [])
+    (chain (variable (codes "c") 10) (called (word (codes "create") 12) (number 14 ∷ []) ∷ [])) ∷ [])
     ≡ fault broken.Condition (span 5)
     ++ (fault broken.EndName (span 6) ++ (fault broken.DoubledName (span 8) ++ fault broken.Arity (span 12)))
 unfolding expression_part
@@ -340,7 +347,7 @@ assigned_parameter :
     (Some (record { name = word (codes "r") 13; of = of_type.Integer (span 15) }))
     (Statement-F.Assign (variable (codes "k") 17) (number 19)
     ∷ Statement-F.Assign (variable (codes "r") 20)
-    (chain (itself 22) (parts.call (word (codes "F") 24) (variable (codes "k") 26 ∷ []) ∷ [])) ∷ []) 29 ∷ [])
+    (chain (itself 22) (called (word (codes "F") 24) (variable (codes "k") 26 ∷ []) ∷ [])) ∷ []) 29 ∷ [])
     [] 34)) ∷ [])
     ≡ fault broken.Assignment (span 17)
 unfolding expression_part statement_part block_piece
@@ -409,7 +416,7 @@ self_outside = simp type_names_any refl
 
 -- stdout.putstring["hi".getSlice[5, 5]] and stdout.putstring["hi".getSlice[5]]
 abbrev slice_of : List Part → List AStatement
-slice_of arguments = Statement-F.Print (chain (text 9) (parts.call (word (codes "getslice") 11) arguments ∷ [])) (span 6) ∷ []
+slice_of arguments = Statement-F.Print (chain (text 9) (called (word (codes "getslice") 11) arguments ∷ [])) (span 6) ∷ []
 
 slice : faults_with main_alone (main (slice_of (number 13 ∷ number 15 ∷ [])) ∷ []) ≡ []
 unfolding expression_part statement_part block_piece
@@ -444,6 +451,7 @@ waits = refl
 abbrev waiting_in_a_process : Holder
 waiting_in_a_process = record {
   name = word (codes "main") 5;
+  is_immutable = false;
   is_monitored = true;
   parameters = [];
   body = record {
@@ -514,7 +522,7 @@ sum_nodes = refl
 
 -- self.f[5, 5 + 5 || "hi"]: the receiver, the first argument, and two values of the second
 abbrev two_arguments : Part
-two_arguments = chain (itself 1) (parts.call (word (codes "f") 3) (number 5 ∷ sum ∷ []) ∷ [])
+two_arguments = chain (itself 1) (called (word (codes "f") 3) (number 5 ∷ sum ∷ []) ∷ [])
 
 call_height : height two_arguments ≡ 4
 unfolding expression_part

@@ -51,7 +51,7 @@ receiver_seen (receiver_lent.Typed of) = Typed of
 
 abbrev pub is_creation : List LinkPart → Bool
 is_creation [] = false
-is_creation (call word arguments ∷ links) = is_word word (codes "create")
+is_creation (call word arguments marks ∷ links) = is_word word (codes "create")
 is_creation (index number at ∷ links) = false
 
 -- `NAME.create` is a creation where the name isn't a value and is a class.
@@ -184,13 +184,13 @@ type_of_receiver scope Own = type_of_self scope
 type_of_receiver scope (Typed of) = of
 
 abbrev pub link_parts : LinkPart → List Part
-link_parts (call name arguments) = arguments
+link_parts (call name arguments marks) = arguments
 link_parts (index number at) = number ∷ []
 
 -- The faults of one call or index itself. The place of a chain is its first token; the value of its last call may not be
 -- needed.
 abbrev pub link_faults : Scope → Span → Bool → Receiver → LinkPart → List StaticFault
-link_faults scope head needed before (call name arguments) =
+link_faults scope head needed before (call name arguments marks) =
     call_faults scope.table needed (callee scope before name) name (values_in scope arguments)
 link_faults scope head needed before (index number at) = index_faults head (type_of_receiver scope before) (value_in scope number)
 
@@ -204,7 +204,7 @@ type_indexed vector = option_and_then element_of vector
 
 -- the type that a call or an index gives
 abbrev pub link_type : Scope → Receiver → LinkPart → Option StaticType
-link_type scope before (call name arguments) = result_of (callee scope before name)
+link_type scope before (call name arguments marks) = result_of (callee scope before name)
 link_type scope before (index number at) = type_indexed (type_of_receiver scope before)
 
 abbrev pub is_last : List LinkPart → Bool

@@ -26,7 +26,7 @@ stacked n (a ∷ more) = max (plus n a.height) (stacked (plus n 1) more)
 
 -- r.op[a1..am]: the greatest of r's and i + ai's; v[i]: as a pair
 abbrev pub height_behind : Scope → ℕ → LinkPart → ℕ
-height_behind scope r (call name arguments) = max r (stacked 1 (values_in scope arguments))
+height_behind scope r (call name arguments marks) = max r (stacked 1 (values_in scope arguments))
 height_behind scope r (index number at) = max r (plus 1 (value_in scope number).height)
 
 abbrev pub links_height : Scope → ℕ → List LinkPart → ℕ
@@ -36,7 +36,7 @@ links_height scope r (l ∷ ls) = links_height scope (height_behind scope r l) l
 -- a creation: the greatest of 1 and i - 1 + ai's
 abbrev pub creation_height : Scope → List LinkPart → ℕ
 creation_height scope [] = 1
-creation_height scope (call name arguments ∷ links) = links_height scope (max 1 (stacked 0 (values_in scope arguments))) links
+creation_height scope (call name arguments marks ∷ links) = links_height scope (max 1 (stacked 0 (values_in scope arguments))) links
 creation_height scope (index number at ∷ links) = 1
 
 abbrev pub postfix_height : Scope → Receiver → Part → List LinkPart → ℕ

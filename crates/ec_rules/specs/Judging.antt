@@ -24,11 +24,11 @@ use Rattle.ec_rules.specs.Members.{constant_entry, constant_type, scope_of, scop
 use Rattle.ec_rules.specs.Names.{unknown_in_expression, unknown_in_member, unknown_in_parameters, unknown_in_statement}
 use Rattle.ec_rules.specs.Nodes.{nodes_of}
 use Rattle.ec_rules.specs.Operands.{result_type, wrong_in_expression, wrong_in_member, wrong_in_statement}
-use Rattle.ec_rules.specs.Parts.{Judgement, Finished, Part, Piece, StatementPart, LinkPart, call, index, FactorPart, AddendPart}
-use Rattle.ec_rules.specs.Parts.{ArmPart, ProcessPart, OperationPart, MemberPart, variable, constant, condition, operation}
+use Rattle.ec_rules.specs.Parts.{Judgement, Finished, Part, Piece, StatementPart, LinkPart, call, index, FactorPart, AddendPart, ArgumentPart}
+use Rattle.ec_rules.specs.Parts.{ArmPart, SectionPart, OperationPart, MemberPart, variable, constant, condition, operation}
 use Rattle.ec_rules.specs.Parts.{BodyPart, Holder, ObjectPart}
-use Rattle.ec_rules.specs.Parts.{AnExpression, AStatement, ALink, AMember, AnAddend, AnArm, ABlock, ABody, AFactor, AnObject}
-use Rattle.ec_rules.specs.Parts.{AnOperation, AProcess, value_in, uses_in, faults_in}
+use Rattle.ec_rules.specs.Parts.{AnExpression, AStatement, ALink, AMember, AnAddend, AnArgument, AnArm, ABlock, ABody, AFactor, AnObject}
+use Rattle.ec_rules.specs.Parts.{AnOperation, ASection, block_in, values_of, marks_of, value_in, uses_in, faults_in}
 use Rattle.ec_rules.specs.Rules.{is_clean}
 use Rattle.ec_rules.specs.Statements.{pieces_of, statement_height, statement_nodes, statement_variables, nothing_done}
 use Rattle.ec_rules.specs.Statements.{nothing_finished, both, finished_with}
@@ -60,13 +60,26 @@ operation_finished scope o block = record { done = nothing_done; uses = block.us
 abbrev pub declaration_finished : Finished
 declaration_finished = record { done = record { height = 0; nodes = 1; variables = 0 }; uses = []; faults = [] }
 
+-- A failure clause stands in the scope of its operation's parameters and result, and counts a tree node besides what stands in
+-- it.
+abbrev pub clause_word : Finished
+clause_word = record { done = record { height = 0; nodes = 1; variables = 0 }; uses = []; faults = [] }
+
+abbrev pub clause_finished : Scope → Option Piece → Finished
+clause_finished scope None = nothing_finished
+clause_finished scope (Some block) = both clause_word (block scope)
+
+-- the block of an operation, and then its failure clause
+abbrev pub blocks_finished : Scope → OperationPart → Finished
+blocks_finished scope o = both (o.block scope) (clause_finished scope o.failure)
+
 -- what stands in a member
 abbrev pub member_piece : Scope → MemberPart → Finished
 member_piece scope (variable is_attached name of None) = declaration_finished
 member_piece scope (variable is_attached name of (Some e)) = both declaration_finished (finished_with (e.judged true scope))
 member_piece scope (constant is_attached name of e) = both declaration_finished (finished_with (e.judged true scope))
 member_piece scope (condition name) = declaration_finished
-member_piece scope (operation o) = operation_finished scope o (o.block (scope_of_operation scope o))
+member_piece scope (operation o) = operation_finished scope o (blocks_finished (scope_of_operation scope o) o)
 
 abbrev pub member_faults : Scope → Bool → MemberPart → List StaticFault
 member_faults scope is_monitored m =
@@ -103,7 +116,7 @@ process_with table at block = record {
   faults = block.faults ++ measured table at 0 block.done;
 }
 
-abbrev pub process_finished : Scope → Option ProcessPart → Finished
+abbrev pub process_finished : Scope → Option SectionPart → Finished
 process_finished scope None = nothing_finished
 process_finished scope (Some p) = process_with scope.table p.at (p.block (in_a_process scope))
 
@@ -149,7 +162,7 @@ first_token (Expression-F.Expression::Variable name) = name.at
 first_token (Expression-F.Parenthesised e at) = at
 first_token (Expression-F.Constructor object) = object.at
 first_token (Expression-F.NodeAt number at word) = at
-first_token (Expression-F.NodeCount at) = at
+first_token (Expression-F.NodeCount at word) = at
 first_token (Expression-F.NewVector of size at word) = at
 first_token (Expression-F.Postfix head links) = head.at
 first_token (Expression-F.Negative e at) = at
@@ -174,7 +187,7 @@ form_negated form = Other
 
 -- `NAME.create` alone, with or without arguments
 abbrev pub form_of_chain : Form → List LinkPart → Form
-form_of_chain (NameAlone name) (call word arguments ∷ []) = if is_word word (codes "create") then Created name else Other
+form_of_chain (NameAlone name) (call word arguments marks ∷ []) = if is_word word (codes "create") then Created name else Other
 form_of_chain form links = Other
 
 abbrev pub form_of : AnExpression → Form
@@ -229,7 +242,7 @@ type_of needed scope (Expression-F.Expression::Variable name) = type_found (find
 type_of needed scope (Expression-F.Parenthesised e at) = (value_in scope e).of
 type_of needed scope (Expression-F.Constructor object) = Some (named (number_at scope.table.places object.holder.name.at.from))
 type_of needed scope (Expression-F.NodeAt number at word) = Some node
-type_of needed scope (Expression-F.NodeCount at) = Some integer
+type_of needed scope (Expression-F.NodeCount at word) = Some integer
 type_of needed scope (Expression-F.NewVector of size at word) = known (vector_of (written_in scope of))
 type_of needed scope (Expression-F.Postfix head links) = chain_type scope needed head links
 type_of needed scope (Expression-F.Negative e at) = Some integer
@@ -321,8 +334,11 @@ block_piece b = block_finished b.statements
 -- ---- the other parts
 
 abbrev pub link_part : ALink → LinkPart
-link_part (Link-F.Call name arguments) = call name arguments
+link_part (Link-F.Call name arguments) = call name (values_of arguments) (marks_of arguments)
 link_part (Link-F.Index number at) = index number at
+
+abbrev pub argument_part : AnArgument → ArgumentPart
+argument_part a = record { carried = a.carried; value = a.value }
 
 abbrev pub factor_part : AFactor → FactorPart
 factor_part f = record { operator = f.operator; value = f.value }
@@ -340,13 +356,20 @@ member_part (Member-F.Condition name) = condition name
 member_part (Member-F.Operation o) = operation o
 
 abbrev pub body_part : ABody → BodyPart
-body_part b = record { members = b.members; initially = b.initially; process = b.process }
+body_part b = record { members = b.members; initially = block_in b.initially; process = b.process }
 
 -- An object constructor has no parameters.
 abbrev pub object_part : AnObject → ObjectPart
 object_part o = record {
   at = o.at;
-  holder = record { name = o.name; is_monitored = o.is_monitored; parameters = []; body = o.body; end_name = o.end_name };
+  holder = record {
+    name = o.name;
+    is_immutable = o.is_immutable;
+    is_monitored = o.is_monitored;
+    parameters = [];
+    body = o.body;
+    end_name = o.end_name;
+  };
 }
 
 abbrev pub operation_part : AnOperation → OperationPart
@@ -355,8 +378,9 @@ operation_part o = record {
   parameters = o.parameters;
   result = o.result;
   block = o.block;
+  failure = block_in o.failure;
   end_name = o.end_name;
 }
 
-abbrev pub process_part : AProcess → ProcessPart
-process_part p = record { at = p.at; block = p.block }
+abbrev pub section_part : ASection → SectionPart
+section_part p = record { at = p.at; block = p.block }

@@ -18,7 +18,7 @@ abbrev pub chain_nodes : Judged → List Judged → ℕ
 chain_nodes first more = plus first.nodes (total (λ value. plus 1 value.nodes) more)
 
 abbrev pub link_nodes : Scope → LinkPart → ℕ
-link_nodes scope (call name arguments) = plus 1 (total_nodes (values_in scope arguments))
+link_nodes scope (call name arguments marks) = plus 1 (total_nodes (values_in scope arguments))
 link_nodes scope (index number at) = plus 1 (nodes_in scope number)
 
 abbrev pub nodes_of : Scope → AnExpression → ℕ

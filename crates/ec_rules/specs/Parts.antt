@@ -1,7 +1,8 @@
 -- The tree as the static rules see it: each part with what is known of the parts within it. Each rule is said of one
 -- part at a time, and Judging.antt puts the parts together.
-use Rattle.std.specs.Prelude.{Bool, true, List, map, Option}
+use Rattle.std.specs.Prelude.{Bool, true, List, map, Option, Some, None}
 use Rattle.ec_ast.specs.declared.Additive.{Additive}
+use Rattle.ec_ast.specs.declared.Carried.{Carried}
 use Rattle.ec_ast.specs.declared.Class.{Class}
 use Rattle.ec_ast.specs.declared.Multiplicative.{Multiplicative}
 use Rattle.ec_ast.specs.declared.Name.{Name}
@@ -16,8 +17,8 @@ use Rattle.ec_rules.specs.declared.judged.Judged.{Judged}
 use Rattle.ec_rules.specs.Captures.{Use}
 use Rattle.ec_types.specs.declared.scopes.entries.Entry.{Entry}
 use Rattle.ec_types.specs.declared.scopes.scope.Scope.{Scope}
-use Rattle.ec_ast.specs.Kinds.{Kinds, ExpressionOf, LinkOf, MemberOf, StatementOf, AddendOf, ArmOf, BlockOf, BodyOf, FactorOf}
-use Rattle.ec_ast.specs.Kinds.{ObjectOf, OperationOf, ProcessOf}
+use Rattle.ec_ast.specs.Kinds.{Kinds, ExpressionOf, LinkOf, MemberOf, StatementOf, AddendOf, ArgumentOf, ArmOf, BlockOf, BodyOf, FactorOf}
+use Rattle.ec_ast.specs.Kinds.{ObjectOf, OperationOf, SectionOf}
 
 -- What an expression is in a scope: its value; the names that it uses, in order; and all faults within it.
 pub record Judgement : Type 0 where
@@ -46,8 +47,20 @@ pub record StatementPart : Type 0 where
   pub finished : Piece
   pub declares : Scope → List Entry
 
+-- An argument of a call, which may go along with it. No source that is read says so yet, and the rules see its value alone.
+pub record ArgumentPart : Type 0 where
+  pub carried : Option Carried
+  pub value : Part
+
+abbrev pub values_of : List ArgumentPart → List Part
+values_of arguments = map (λ a. a.value) arguments
+
+abbrev pub marks_of : List ArgumentPart → List (Option Carried)
+marks_of arguments = map (λ a. a.carried) arguments
+
+-- a call, with the values of its arguments and how each goes along; or an index
 pub data LinkPart : Type 0 where
-  call : Name → List Part → LinkPart
+  call : Name → List Part → List (Option Carried) → LinkPart
   index : Part → Span → LinkPart
 
 pub record FactorPart : Type 0 where
@@ -62,15 +75,21 @@ pub record ArmPart : Type 0 where
   pub condition : Part
   pub block : Piece
 
-pub record ProcessPart : Type 0 where
+-- an `initially` block, a process section or a failure clause, at its first word
+pub record SectionPart : Type 0 where
   pub at : Span
   pub block : Piece
+
+abbrev pub block_in : Option SectionPart → Option Piece
+block_in None = None
+block_in (Some s) = Some s.block
 
 pub record OperationPart : Type 0 where
   pub name : Name
   pub parameters : List Parameter
   pub result : Option Parameter
   pub block : Piece
+  pub failure : Option Piece
   pub end_name : Name
 
 -- whether a field is attached stands first
@@ -83,11 +102,12 @@ pub data MemberPart : Type 0 where
 pub record BodyPart : Type 0 where
   pub members : List MemberPart
   pub initially : Option Piece
-  pub process : Option ProcessPart
+  pub process : Option SectionPart
 
 -- an object constructor, or a class with its parameters, over what its body is
 pub record HolderOf (B : Type 0) : Type 0 where
   pub name : Name
+  pub is_immutable : Bool
   pub is_monitored : Bool
   pub parameters : List Parameter
   pub body : B
@@ -100,6 +120,7 @@ Holder = HolderOf BodyPart
 abbrev pub class_with : {B : Type 0} → Class → B → HolderOf B
 class_with c body = record {
   name = c.name;
+  is_immutable = c.is_immutable;
   is_monitored = c.is_monitored;
   parameters = c.parameters;
   body = body;
@@ -131,13 +152,14 @@ kinds = record {
   member = MemberPart;
   statement = StatementPart;
   addend = AddendPart;
+  argument = ArgumentPart;
   arm = ArmPart;
   block = Piece;
   body = BodyPart;
   factor = FactorPart;
   object = ObjectPart;
   operation = OperationPart;
-  process = ProcessPart;
+  section = SectionPart;
 }
 
 -- ---- one layer of the tree, with parts in it
@@ -157,6 +179,9 @@ AMember = MemberOf kinds
 abbrev pub AnAddend : Type 0
 AnAddend = AddendOf kinds
 
+abbrev pub AnArgument : Type 0
+AnArgument = ArgumentOf kinds
+
 abbrev pub AnArm : Type 0
 AnArm = ArmOf kinds
 
@@ -175,8 +200,8 @@ AnObject = ObjectOf kinds
 abbrev pub AnOperation : Type 0
 AnOperation = OperationOf kinds
 
-abbrev pub AProcess : Type 0
-AProcess = ProcessOf kinds
+abbrev pub ASection : Type 0
+ASection = SectionOf kinds
 
 -- ---- what an expression is in a scope, where its value is needed, in short
 

@@ -10,21 +10,22 @@ use Rattle.ec_ast.specs.declared.Link.{Link}
 use Rattle.ec_ast.specs.declared.Member.{Member}
 use Rattle.ec_ast.specs.declared.Statement.{Statement}
 use Rattle.ec_ast.specs.declared.Addend.{Addend}
+use Rattle.ec_ast.specs.declared.Argument.{Argument}
 use Rattle.ec_ast.specs.declared.Arm.{Arm}
 use Rattle.ec_ast.specs.declared.Block.{Block}
 use Rattle.ec_ast.specs.declared.Body.{Body}
 use Rattle.ec_ast.specs.declared.Factor.{Factor}
 use Rattle.ec_ast.specs.declared.ObjectConstructor.{ObjectConstructor}
 use Rattle.ec_ast.specs.declared.Operation.{Operation}
-use Rattle.ec_ast.specs.declared.ProcessSection.{ProcessSection}
-use Rattle.ec_rules.specs.Judging.{expression_part, link_part, member_part, statement_part, addend_part, arm_part, block_piece}
-use Rattle.ec_rules.specs.Judging.{body_part, factor_part, object_part, operation_part, process_part}
-use Rattle.ec_rules.specs.Parts.{Part, LinkPart, MemberPart, StatementPart, AddendPart, ArmPart, Piece, BodyPart, FactorPart}
-use Rattle.ec_rules.specs.Parts.{Holder, ObjectPart, OperationPart, ProcessPart, ValuePart, expression, class, typeobject}
+use Rattle.ec_ast.specs.declared.Section.{Section}
+use Rattle.ec_rules.specs.Judging.{expression_part, link_part, member_part, statement_part, addend_part, argument_part, arm_part, block_piece}
+use Rattle.ec_rules.specs.Judging.{body_part, factor_part, object_part, operation_part, section_part}
+use Rattle.ec_rules.specs.Parts.{Part, LinkPart, MemberPart, StatementPart, AddendPart, ArgumentPart, ArmPart, Piece, BodyPart, FactorPart}
+use Rattle.ec_rules.specs.Parts.{Holder, ObjectPart, OperationPart, SectionPart, ValuePart, expression, class, typeobject}
 use Rattle.ec_rules.specs.Parts.{ConstantPart, AnExpression, AStatement, kinds, class_with}
-use Rattle.ec_ast.specs.Folds.{Steps, expression_folded, link_folded, member_folded, statement_folded, addend_folded}
+use Rattle.ec_ast.specs.Folds.{Steps, expression_folded, link_folded, member_folded, statement_folded, addend_folded, argument_folded}
 use Rattle.ec_ast.specs.Folds.{arm_folded, block_folded, body_folded, factor_folded, object_folded, operation_folded}
-use Rattle.ec_ast.specs.Folds.{process_folded}
+use Rattle.ec_ast.specs.Folds.{section_folded}
 use Rattle.ec_ast.specs.Kinds.{tree}
 use Rattle.ec_ast.specs.Layers as layers
 use Rattle.ec_ast.specs.Layers.{Maps}
@@ -36,13 +37,14 @@ steps = record {
   member = member_part;
   statement = statement_part;
   addend = addend_part;
+  argument = argument_part;
   arm = arm_part;
   block = block_piece;
   body = body_part;
   factor = factor_part;
   object = object_part;
   operation = operation_part;
-  process = process_part;
+  section = section_part;
 }
 
 unfoldable pub part_of : Expression → Part
@@ -59,6 +61,9 @@ statement_of = statement_folded steps
 
 unfoldable pub addend_of : Addend → AddendPart
 addend_of = addend_folded steps
+
+unfoldable pub argument_of : Argument → ArgumentPart
+argument_of = argument_folded steps
 
 unfoldable pub arm_of : Arm → ArmPart
 arm_of = arm_folded steps
@@ -78,8 +83,8 @@ object_of = object_folded steps
 unfoldable pub operation_of : Operation → OperationPart
 operation_of = operation_folded steps
 
-unfoldable pub process_of : ProcessSection → ProcessPart
-process_of = process_folded steps
+unfoldable pub section_of : Section → SectionPart
+section_of = section_folded steps
 
 abbrev pub parts : Maps tree kinds
 parts = record {
@@ -88,13 +93,14 @@ parts = record {
   member = member_of;
   statement = statement_of;
   addend = addend_of;
+  argument = argument_of;
   arm = arm_of;
   block = block_of;
   body = body_of;
   factor = factor_of;
   object = object_of;
   operation = operation_of;
-  process = process_of;
+  section = section_of;
 }
 
 -- ---- the layer at the top, with its parts made

@@ -108,7 +108,7 @@ pub fn form_of(e: &Expression) -> Form<'_>
         Expression::Negative(e, _) => negated(form_of(e.get())),
         Expression::Nil(_)
         | Expression::NodeAt(_, _, _)
-        | Expression::NodeCount(_)
+        | Expression::NodeCount(_, _)
         | Expression::View(_, _, _)
         | Expression::IsFixed(_, _)
         | Expression::Term(_, _)

@@ -36,7 +36,7 @@ kinds = record {
   factor = Written;
   object = Written;
   operation = Written;
-  process = Written;
+  section = Written;
 }
 
 abbrev pub expression_written : ExpressionOf kinds → Written
@@ -100,7 +100,7 @@ steps = record {
   factor = λ f. f.value;
   object = λ o. o.body;
   operation = λ o. o.block;
-  process = λ p. p.block;
+  section = λ p. p.block;
 }
 
 abbrev pub written_in_tree : Expression → Written

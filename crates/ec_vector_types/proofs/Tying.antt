@@ -20,7 +20,7 @@ use Rattle.ec_ast.specs.declared.Member.TheVariants as member
 use Rattle.ec_ast.specs.declared.Name.{Name}
 use Rattle.ec_ast.specs.declared.ObjectConstructor.{ObjectConstructor, out-ObjectConstructor, roll-out-ObjectConstructor}
 use Rattle.ec_ast.specs.declared.Operation.{roll-Operation}
-use Rattle.ec_ast.specs.declared.ProcessSection.{ProcessSection}
+use Rattle.ec_ast.specs.declared.Section.{Section}
 use Rattle.ec_ast.specs.declared.Statement.{Statement, roll-Statement}
 use Rattle.ec_ast.specs.declared.Statement.TheVariants as tree_statement
 use Rattle.ec_base.specs.Stack.{top_of, below_of}
@@ -125,12 +125,12 @@ module _ (Q : List Text → StaticType → Type 0) where
         subst (TreeFits names) (rolled.object (out-ObjectConstructor o))
         (subst (λ x. TreeFits names (written.object x)) (sym (roll-out-ObjectConstructor o)) h)
 
-    record InBody (ms : List Member) (b : Option Block) (p : Option ProcessSection) : Type 0 where
+    record InBody (ms : List Member) (b : Option Block) (p : Option Section) : Type 0 where
       pub members : TreeFits names (joined (map written.member ms))
       pub first : TreeFits names (if_there (option_map written.block b))
       pub section : TreeFits names (if_there (option_map written.process p))
 
-    in_parts : (members : List Member) (first : Option Block) (section : Option ProcessSection) →
+    in_parts : (members : List Member) (first : Option Block) (section : Option Section) →
         TreeFits names
         (joined (map written.member members)
         ++ (if_there (option_map written.block first) ++ if_there (option_map written.process section))) →
@@ -142,7 +142,7 @@ module _ (Q : List Text → StaticType → Type 0) where
         let k : TreeFits names (fs ++ ss) = tree_right names ms (fs ++ ss) h in
         record { members = tree_left names ms (fs ++ ss) h; first = tree_left names fs ss k; section = tree_right names fs ss k }
 
-    in_body : (members : List Member) (first : Option Block) (section : Option ProcessSection) →
+    in_body : (members : List Member) (first : Option Block) (section : Option Section) →
         TreeFits names (written.body (roll-Body (record { members = members; initially = first; process = section }))) →
         InBody members first section
     in_body members None None h =
@@ -284,7 +284,7 @@ module _ (Q : List Text → StaticType → Type 0) where
     expression (TiedExpression.node_at {env} {x} {y} {m} {at} {word} h) f =
         one env (Form-F.NodeAt y word.from) (e.rolls-NodeAt y word.from)
         (expression h (in_expression (names_at env) (Expression-F.NodeAt x at word) (tree.rolls-NodeAt x at word) f))
-    expression (TiedExpression.node_count {env} {at}) f = one env Form-F.NodeCount e.rolls-NodeCount (tt, tt)
+    expression (TiedExpression.node_count {env} {at} {word}) f = one env Form-F.NodeCount e.rolls-NodeCount (tt, tt)
     expression (TiedExpression.new_vector {env} {of} {x} {y} {m} {at} {word} h) f =
         let of_it : StaticType = vector_of (written_in env.scope of) in
         let g : TreeFits (names_at env) (of ∷ written.expression x) =
@@ -603,7 +603,7 @@ module _ (Q : List Text → StaticType → Type 0) where
         let k : Fits env (made_of_block (core_block (record { statements = ys }))) m = block h f in
         (within_block (names_at env) ys k.0, k.1)
 
-    process : {class : ℕ} {env : Env} {name : Name} {x : Option ProcessSection} {m : Made} → IsProcess class env name x m →
+    process : {class : ℕ} {env : Env} {name : Name} {x : Option Section} {m : Made} → IsProcess class env name x m →
         TreeFits (names_at env) (if_there (option_map written.process x)) → MadeFits (names_at env) m
     process IsProcess.no_process f = tt
     process (IsProcess.process {class} {env} {name} at {x} {y} {ts} {m} h) f =

@@ -25,6 +25,21 @@ blocks::judge_block-returns-clause-done = Blocks.judge_block-returns-clause-done
 pub blocks::judge_block-returns-clause-walk : goal.blocks::judge_block-returns-clause-walk
 blocks::judge_block-returns-clause-walk = Blocks.judge_block-returns-clause-walk
 
+pub blocks::judge_section_if-returns-in-None-clause-walk :
+    goal.blocks::judge_section_if-returns-in-None-clause-walk
+blocks::judge_section_if-returns-in-None-clause-walk =
+    Blocks.judge_section_if-returns-in-None-clause-walk
+
+pub blocks::judge_section_if-returns-in-Some-clause-done :
+    goal.blocks::judge_section_if-returns-in-Some-clause-done
+blocks::judge_section_if-returns-in-Some-clause-done =
+    Blocks.judge_section_if-returns-in-Some-clause-done
+
+pub blocks::judge_section_if-returns-in-Some-clause-walk :
+    goal.blocks::judge_section_if-returns-in-Some-clause-walk
+blocks::judge_section_if-returns-in-Some-clause-walk =
+    Blocks.judge_section_if-returns-in-Some-clause-walk
+
 pub blocks::judge_block_if-returns-in-None-clause-walk : goal.blocks::judge_block_if-returns-in-None-clause-walk
 blocks::judge_block_if-returns-in-None-clause-walk = Blocks.judge_block_if-returns-in-None-clause-walk
 
@@ -162,6 +177,16 @@ expressions::addend_values-loop-a-preserved = Expressions.addend_values-loop-a-p
 
 pub expressions::addend_values-returns-clause-walk : goal.expressions::addend_values-returns-clause-walk
 expressions::addend_values-returns-clause-walk = Expressions.addend_values-returns-clause-walk
+
+pub expressions::argument_values-loop-a-preserved :
+    goal.expressions::argument_values-loop-a-preserved
+expressions::argument_values-loop-a-preserved =
+    Expressions.argument_values-loop-a-preserved
+
+pub expressions::argument_values-returns-clause-walk :
+    goal.expressions::argument_values-returns-clause-walk
+expressions::argument_values-returns-clause-walk =
+    Expressions.argument_values-returns-clause-walk
 
 pub expressions::factor_values-loop-f-preserved : goal.expressions::factor_values-loop-f-preserved
 expressions::factor_values-loop-f-preserved = Expressions.factor_values-loop-f-preserved
@@ -394,6 +419,21 @@ holders::judge_object-returns-clause-value = Holders.judge_object-returns-clause
 
 pub holders::judge_object-returns-clause-walk : goal.holders::judge_object-returns-clause-walk
 holders::judge_object-returns-clause-walk = Holders.judge_object-returns-clause-walk
+
+pub holders::judge_clause_if-returns-in-None-clause-walk :
+    goal.holders::judge_clause_if-returns-in-None-clause-walk
+holders::judge_clause_if-returns-in-None-clause-walk =
+    Holders.judge_clause_if-returns-in-None-clause-walk
+
+pub holders::judge_clause_if-returns-in_ok-done-in-Some-clause-done :
+    goal.holders::judge_clause_if-returns-in_ok-done-in-Some-clause-done
+holders::judge_clause_if-returns-in_ok-done-in-Some-clause-done =
+    Holders.judge_clause_if-returns-in_ok-done-in-Some-clause-done
+
+pub holders::judge_clause_if-returns-in_ok-done-in-Some-clause-walk :
+    goal.holders::judge_clause_if-returns-in_ok-done-in-Some-clause-walk
+holders::judge_clause_if-returns-in_ok-done-in-Some-clause-walk =
+    Holders.judge_clause_if-returns-in_ok-done-in-Some-clause-walk
 
 pub holders::judge_operation-returns-clause-walk : goal.holders::judge_operation-returns-clause-walk
 holders::judge_operation-returns-clause-walk = Holders.judge_operation-returns-clause-walk

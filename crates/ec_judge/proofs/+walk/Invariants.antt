@@ -4,9 +4,9 @@ use Rattle.ec_judge.specs.Chains.{over_links, passed_all, passed_seen}
 use Rattle.ec_judge.specs.Walks.{over_finished, over_parts}
 use Rattle.ec_rules.specs.Judging.{block_finished, members_finished}
 use Rattle.ec_rules.specs.Operands.{added_in}
-use Rattle.ec_rules.specs.Parts.{value_in, values_in}
+use Rattle.ec_rules.specs.Parts.{values_of, value_in, values_in}
 use Rattle.ec_rules.specs.Statements.{done_both, nothing_done, piece_of_arm}
-use Rattle.ec_rules.specs.Tree.{addend_of, arm_of, factor_of, link_of, member_of, part_of, statement_of}
+use Rattle.ec_rules.specs.Tree.{addend_of, argument_of, arm_of, factor_of, link_of, member_of, part_of, statement_of}
 use Rattle.ec_judge.proofs.+walk.Given as goal
 
 abbrev pub invariant-expressions::values-loop-e : goal.invariant-expressions::values-loop-e
@@ -15,6 +15,16 @@ invariant-expressions::values-loop-e l =
       walk : over_parts l.walk (map part_of (drop l.e-index l.es)) ≡ over_parts l.initial.walk (map part_of l.es);
       values : l.found.items ++ values_in l.initial.walk.scope (map part_of (drop l.e-index l.es)) ≡ values_in l.initial.walk.scope
           (map part_of l.es);
+      scope : l.walk.scope ≡ l.initial.walk.scope;
+    }
+
+abbrev pub invariant-expressions::argument_values-loop-a : goal.invariant-expressions::argument_values-loop-a
+invariant-expressions::argument_values-loop-a l =
+    record {
+      walk : over_parts l.walk (values_of (map argument_of (drop l.a-index l.arguments))) ≡ over_parts l.initial.walk
+          (values_of (map argument_of l.arguments));
+      values : l.found.items ++ values_in l.initial.walk.scope (values_of (map argument_of (drop l.a-index l.arguments))) ≡ values_in
+          l.initial.walk.scope (values_of (map argument_of l.arguments));
       scope : l.walk.scope ≡ l.initial.walk.scope;
     }
 

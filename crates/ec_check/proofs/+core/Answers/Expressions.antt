@@ -59,11 +59,11 @@ resolve-returns-in-Itself-clause-made t c =
 
 pub resolve-returns-in-NodeCount-clause-core : goal.expressions::resolve-returns-in-NodeCount-clause-core
 resolve-returns-in-NodeCount-clause-core t c =
-    core_is c.args.e.now _ _ c.in-NodeCount.is (layers.node_count_layer parts c.in-NodeCount.field-0) (env_of c.args.r.now)
+    core_is c.args.e.now _ _ c.in-NodeCount.is (layers.node_count_layer parts c.in-NodeCount.field-0 c.in-NodeCount.field-1) (env_of c.args.r.now)
 
 pub resolve-returns-in-NodeCount-clause-made : goal.expressions::resolve-returns-in-NodeCount-clause-made
 resolve-returns-in-NodeCount-clause-made t c =
-    has_made c.args.e.now _ _ c.in-NodeCount.is (layers.node_count_layer parts c.in-NodeCount.field-0) c.args.r.now _
+    has_made c.args.e.now _ _ c.in-NodeCount.is (layers.node_count_layer parts c.in-NodeCount.field-0 c.in-NodeCount.field-1) c.args.r.now _
     (unmade c.args.r.now)
 
 pub resolve-returns-in_ok-copied-in-Literal-clause-core : goal.expressions::resolve-returns-in_ok-copied-in-Literal-clause-core

@@ -9,11 +9,12 @@ use Rattle.ec_rules.specs.Forms.{form_seen}
 use Rattle.ec_rules.specs.Judging as judging
 use Rattle.ec_rules.specs.Judging.{block_finished}
 use Rattle.ec_rules.specs.Operands as operands
-use Rattle.ec_rules.specs.Parts.{Finished, value_in}
+use Rattle.ec_rules.specs.Parts.{Finished, SectionPart, value_in}
 use Rattle.ec_rules.specs.Rules.{noted}
 use Rattle.ec_rules.specs.Statements.{done_both, nothing_done, piece_of_arm}
 use Rattle.ec_rules.specs.Tree.{arm_of, block_of, part_of, parts, statement_of}
 use Rattle.ec_rules.specs.declared.operands.Wanted.TheVariants as wanted
+use Rattle.ec_rules.proofs.Equations.{process_section_step}
 use Rattle.ec_ast.proofs.Layers as tree_layers
 use Rattle.ec_types.specs.Scopes.{forgetting}
 use Rattle.ec_types.specs.declared.scopes.scope.Scope.{Scope}
@@ -94,6 +95,21 @@ judge_block-returns-clause-walk t c =
 
 pub judge_block_if-returns-in-None-clause-walk : goal.blocks::judge_block_if-returns-in-None-clause-walk
 judge_block_if-returns-in-None-clause-walk t c = rw c.in-None.is (sym (walked_none c.args.walk.now))
+
+pub judge_section_if-returns-in-None-clause-walk : goal.blocks::judge_section_if-returns-in-None-clause-walk
+judge_section_if-returns-in-None-clause-walk t c = rw c.in-None.is (sym (walked_none c.args.walk.now))
+
+pub judge_section_if-returns-in-Some-clause-done : goal.blocks::judge_section_if-returns-in-Some-clause-done
+judge_section_if-returns-in-Some-clause-done t c =
+    let step = process_section_step c.in-Some.s in
+    rw c.in-Some.is (subst (λ x. IfOk c.judge_block.result (λ d. d ≡ x))
+    (ap (λ (s : SectionPart). (s.block c.args.walk.now.scope).done) (sym step)) c.judge_block.ensures.done)
+
+pub judge_section_if-returns-in-Some-clause-walk : goal.blocks::judge_section_if-returns-in-Some-clause-walk
+judge_section_if-returns-in-Some-clause-walk t c =
+    let step = process_section_step c.in-Some.s in
+    rw c.in-Some.is (subst (λ x. OnOk c.judge_block.result (c.judge_block.new.walk ≡ x))
+    (ap (λ (s : SectionPart). over_finished c.args.walk.now (s.block c.args.walk.now.scope)) (sym step)) c.judge_block.ensures.walk)
 
 pub judge_constant-returns-clause-walk : goal.blocks::judge_constant-returns-clause-walk
 judge_constant-returns-clause-walk t c =

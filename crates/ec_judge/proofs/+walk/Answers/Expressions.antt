@@ -1,5 +1,6 @@
 -- Answers: what is left to show of the functions of `expressions`.
 use Rattle.std.proofs.Common.{◌≡◌, ◌∷◌, IfOk, OnOk, map, refl, sym, ap, ◌∙◌, subst}
+use Rattle.ec_ast.specs.declared.Argument.{Argument, out-Argument}
 use Rattle.ec_ast.specs.declared.Factor.{Factor, out-Factor}
 use Rattle.ec_ast.specs.declared.Addend.{Addend, out-Addend}
 use Rattle.ec_judge.specs.Chains as chains
@@ -9,12 +10,12 @@ use Rattle.ec_judge.specs.Walks.{over_layer, over_part}
 use Rattle.ec_rules.specs.Judging as judging
 use Rattle.ec_rules.specs.Operands as operands
 use Rattle.ec_rules.specs.Operands.{added_in}
-use Rattle.ec_rules.specs.Parts.{AddendPart, FactorPart, value_in, values_in}
+use Rattle.ec_rules.specs.Parts.{AddendPart, ArgumentPart, FactorPart, values_of, value_in, values_in}
 use Rattle.ec_rules.specs.Rules.{ended, noted}
-use Rattle.ec_rules.specs.Tree.{addend_of, factor_of, layer_of, link_of, part_of, parts}
+use Rattle.ec_rules.specs.Tree.{addend_of, argument_of, factor_of, layer_of, link_of, part_of, parts}
 use Rattle.ec_rules.specs.declared.operands.Wanted.TheVariants as wanted
 use Rattle.ec_ast.proofs.Layers as tree_layers
-use Rattle.ec_rules.proofs.Equations.{addend_step, factor_step}
+use Rattle.ec_rules.proofs.Equations.{addend_step, argument_step, factor_step}
 use Rattle.ec_judge.proofs.Along as along
 use Rattle.ec_judge.proofs.Chains.{chain_looked, chain_walk}
 use Rattle.ec_judge.proofs.Judged.{looked_value, looked_walk}
@@ -50,6 +51,35 @@ pub addend_values-returns-clause-walk : goal.expressions::addend_values-returns-
 addend_values-returns-clause-walk t c =
     along.parts_end (λ (a : Addend). (addend_of a).value) (λ xs. map (λ a. a.value) (map addend_of xs))
     (λ x ys. refl) c.loop-a.walk c.args.addends.now c.loop-a.a-index
+    refl c.loop-a-test.false
+    ∙ c.loop-a.invariant.walk
+
+pub argument_values-loop-a-preserved : goal.expressions::argument_values-loop-a-preserved
+argument_values-loop-a-preserved t c =
+    let x = c.a-item.result in
+    let scope = c.args.walk.now.scope in
+    let part = ap (λ (a : ArgumentPart). a.value) (argument_step x) in
+    let walk = c.in_ok-value.ensures.walk ∙ ap (over_part c.loop-a.walk) (sym part) in
+    record {
+      walk = along.parts_next (λ (a : Argument). (argument_of a).value) (λ xs. values_of (map argument_of xs))
+          (λ y ys. refl) c.loop-a.walk c.value.new.walk
+          c.args.arguments.now c.loop-a.a-index x c.loop-a-test.true c.a-item.is walk
+          ∙ c.loop-a.invariant.walk;
+      values = along.values_next (λ (a : Argument). value_in scope (argument_of a).value)
+          (λ xs. values_in scope (values_of (map argument_of xs))) (λ y ys. refl)
+          c.loop-a.found.items c.push.new.self.items c.args.arguments.now c.loop-a.a-index x c.in_ok-value.field-0 c.loop-a-test.true
+          c.a-item.is
+          c.in_ok-push.ensures.items
+          (c.in_ok-value.ensures.value ∙ ap (λ s. value_in s (part_of (out-Argument x).value)) c.loop-a.invariant.scope
+          ∙ ap (value_in scope) (sym part))
+          ∙ c.loop-a.invariant.values;
+      scope = steps.part_scope c.loop-a.walk c.value.new.walk (argument_of x).value walk ∙ c.loop-a.invariant.scope;
+    }
+
+pub argument_values-returns-clause-walk : goal.expressions::argument_values-returns-clause-walk
+argument_values-returns-clause-walk t c =
+    along.parts_end (λ (a : Argument). (argument_of a).value) (λ xs. values_of (map argument_of xs))
+    (λ x ys. refl) c.loop-a.walk c.args.arguments.now c.loop-a.a-index
     refl c.loop-a-test.false
     ∙ c.loop-a.invariant.walk
 

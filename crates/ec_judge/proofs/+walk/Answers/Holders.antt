@@ -12,21 +12,21 @@ use Rattle.ec_types.specs.declared.conform.static_type.StaticType.TheVariants.{P
 use Rattle.ec_rules.specs.Captures.{captured}
 use Rattle.ec_rules.specs.Forms.{form_seen}
 use Rattle.ec_rules.specs.Judging as judging
-use Rattle.ec_rules.specs.Judging.{member_finished, members_finished}
+use Rattle.ec_rules.specs.Judging.{clause_finished, member_finished, members_finished}
 use Rattle.ec_rules.specs.Limits.{measured}
 use Rattle.ec_rules.specs.Members.{parameter_entries, result_entries, scope_of, scope_of_operation}
-use Rattle.ec_rules.specs.Parts.{BodyPart, ObjectPart, OperationPart, ProcessPart}
+use Rattle.ec_rules.specs.Parts.{BodyPart, ObjectPart, OperationPart, SectionPart}
 use Rattle.ec_rules.specs.Rules.{noted}
 use Rattle.ec_rules.specs.Statements as statements
 use Rattle.ec_rules.specs.Statements.{done_both, nothing_done}
-use Rattle.ec_rules.specs.Tree.{member_of, object_of, operation_of, part_of, process_of}
+use Rattle.ec_rules.specs.Tree.{member_of, object_of, operation_of, part_of, section_of}
 use Rattle.ec_rules.proofs.Equations as equations
 use Rattle.ec_rules.proofs.Equations.{body_step, object_constructor_step, operation_step, process_section_step}
 use Rattle.ec_types.specs.Scopes.{declaring, forgetting}
 use Rattle.ec_judge.proofs.Along as along
 use Rattle.ec_judge.proofs.Bodies as bodies
 use Rattle.ec_judge.proofs.Steps as steps
-use Rattle.ec_judge.proofs.Walks.{walk_of}
+use Rattle.ec_judge.proofs.Walks.{walk_of, walked_none}
 use Rattle.ec_judge.proofs.+walk.Goals as goal
 
 pub judge_body-returns : goal.holders::judge_body-returns
@@ -37,22 +37,22 @@ judge_body-returns t c =
     let members = ap (map member_of) c.as_slice.ensures ∙ sym (ap (λ (b : BodyPart). b.members) step) in
     let initially = sym (ap (λ (b : BodyPart). b.initially) step) in
     let scope = steps.finished_scope w c.judge_members.new.walk _ _ c.in_ok-members.ensures.walk in
-    let first = walk_of c.judge_block_if.new.walk.scope c.measured_operation.new.faults c.judge_block_if.new.walk.uses in
+    let first = walk_of c.judge_section_if.new.walk.scope c.measured_operation.new.faults c.judge_section_if.new.walk.uses in
     subst (λ x. OnOk c.judge_process.result (c.judge_process.new.walk ≡ x))
     (ap (holders.behind_process first) (sym (ap (λ (b : BodyPart). b.process) step))
-    ∙ bodies.body_walk w h c.judge_members.new.walk c.judge_block_if.new.walk (holders.behind_process first h.body.process)
+    ∙ bodies.body_walk w h c.judge_members.new.walk c.judge_section_if.new.walk (holders.behind_process first h.body.process)
     c.measured_operation.new.faults
     (c.in_ok-members.ensures.walk ∙ ap (λ ms. over_finished w (members_finished w.scope h.is_monitored ms)) members)
-    (c.in_ok-judge_block_if.ensures.walk
+    (c.in_ok-judge_section_if.ensures.walk
     ∙ ap (λ i. over_finished c.judge_members.new.walk (judging.finished_if c.judge_members.new.walk.scope i)) initially
     ∙ ap (λ s. over_finished c.judge_members.new.walk (judging.finished_if s h.body.initially)) scope)
     (c.measured_operation.ensures
-    ∙ ap (λ d. noted c.judge_block_if.new.walk.faults (measured c.judge_block_if.new.walk.scope.table h.name.at 0 d))
+    ∙ ap (λ d. noted c.judge_section_if.new.walk.faults (measured c.judge_section_if.new.walk.scope.table h.name.at 0 d))
     (c.both-first.ensures
-    ∙ ap (λ d. done_both d c.in_ok-judge_block_if.field-0)
+    ∙ ap (λ d. done_both d c.in_ok-judge_section_if.field-0)
     (c.in_ok-members.ensures.done ∙ ap (λ ms. (members_finished w.scope h.is_monitored ms).done) members)
     ∙ ap (done_both (members_finished w.scope h.is_monitored h.body.members).done)
-    (c.in_ok-judge_block_if.ensures.done
+    (c.in_ok-judge_section_if.ensures.done
     ∙ ap (λ i. (judging.finished_if c.judge_members.new.walk.scope i).done) initially
     ∙ ap (λ s. (judging.finished_if s h.body.initially).done) scope)))
     refl)
@@ -200,17 +200,43 @@ judge_operation-returns-clause-walk t c =
     let o = operation_of c.args.o.now in
     let step = operation_step c.args.o.now in
     let inner = c.declare_heading.new.scope in
+    let first = c.judge_block.new.walk in
     let block = λ (x : OperationPart). x.block inner in
-    bodies.operation_walk w c.judge_block.new.walk o inner c.forget_locals.new.self c.operation_rules.new.faults
+    let clause = λ (x : OperationPart). clause_finished first.scope x.failure in
+    let scope = steps.finished_scope (in_scope w inner) first _ _ c.in_ok-block.ensures.walk in
+    bodies.operation_walk w first c.judge_clause_if.new.walk o inner c.forget_locals.new.self c.operation_rules.new.faults
     (c.in_ok-declare_heading.ensures
     ∙ ap (λ ps. declaring (parameter_entries w.scope ps ++ result_entries w.scope (out-Operation c.args.o.now).result) w.scope)
     c.as_slice.ensures
     ∙ ap (scope_of_operation w.scope) (sym step))
-    (c.in_ok-done.ensures.walk ∙ ap (λ x. over_finished (in_scope w inner) (block x)) (sym step))
-    (c.forget_locals.ensures ∙ ap (λ n. forgetting n c.judge_block.new.walk.scope) c.local_count-count.ensures)
+    (c.in_ok-block.ensures.walk ∙ ap (λ x. over_finished (in_scope w inner) (block x)) (sym step))
+    (c.in_ok-judge_clause_if.ensures.walk
+    ∙ ap (λ x. over_finished first (clause x)) (sym step)
+    ∙ ap (λ s. over_finished first (clause_finished s o.failure)) scope)
+    (c.forget_locals.ensures ∙ ap (λ n. forgetting n c.judge_clause_if.new.walk.scope) c.local_count-count.ensures)
     (c.in_ok-operation_rules.ensures
-    ∙ ap (λ d. noted c.judge_block.new.walk.faults (holders.operation_faults c.forget_locals.new.self.table o d))
-    (c.in_ok-done.ensures.done ∙ ap (λ x. (block x).done) (sym step)))
+    ∙ ap (λ d. noted c.judge_clause_if.new.walk.faults (holders.operation_faults c.forget_locals.new.self.table o d))
+    (c.both-done.ensures
+    ∙ ap (λ d. done_both d c.in_ok-judge_clause_if.field-0) (c.in_ok-block.ensures.done ∙ ap (λ x. (block x).done) (sym step))
+    ∙ ap (done_both (block o).done)
+    (c.in_ok-judge_clause_if.ensures.done
+    ∙ ap (λ x. (clause x).done) (sym step)
+    ∙ ap (λ s. (clause_finished s o.failure).done) scope)))
+
+pub judge_clause_if-returns-in-None-clause-walk : goal.holders::judge_clause_if-returns-in-None-clause-walk
+judge_clause_if-returns-in-None-clause-walk t c = rw c.in-None.is (sym (walked_none c.args.walk.now))
+
+pub judge_clause_if-returns-in_ok-done-in-Some-clause-done : goal.holders::judge_clause_if-returns-in_ok-done-in-Some-clause-done
+judge_clause_if-returns-in_ok-done-in-Some-clause-done t c =
+    let step = process_section_step c.in-Some.s in
+    rw c.in-Some.is (c.declaration.ensures ∙ ap holders.declaration
+    (c.in_ok-done-in-Some.ensures.done ∙ ap (λ (s : SectionPart). (s.block c.args.walk.now.scope).done) (sym step)))
+
+pub judge_clause_if-returns-in_ok-done-in-Some-clause-walk : goal.holders::judge_clause_if-returns-in_ok-done-in-Some-clause-walk
+judge_clause_if-returns-in_ok-done-in-Some-clause-walk t c =
+    let step = process_section_step c.in-Some.s in
+    rw c.in-Some.is (c.in_ok-done-in-Some.ensures.walk
+    ∙ ap (λ (s : SectionPart). over_finished c.args.walk.now (s.block c.args.walk.now.scope)) (sym step))
 
 pub judge_process-returns-in_ok-done-in-Some : goal.holders::judge_process-returns-in_ok-done-in-Some
 judge_process-returns-in_ok-done-in-Some t c =
@@ -219,11 +245,11 @@ judge_process-returns-in_ok-done-in-Some t c =
     let faults = c.judge_block.new.walk.faults in
     let table = c.judge_block.new.walk.scope.table in
     let step = process_section_step c.in-Some.p in
-    let p = process_of c.in-Some.p in
+    let p = section_of c.in-Some.p in
     rw c.in-Some.is
     (bodies.process_walk w c.judge_block.new.walk p inner c.measured_operation.new.faults c.set_in_process.ensures
-    (c.in_ok-done-in-Some.ensures.walk ∙ ap (λ (x : ProcessPart). over_finished (in_scope w inner) (x.block inner)) (sym step))
+    (c.in_ok-done-in-Some.ensures.walk ∙ ap (λ (x : SectionPart). over_finished (in_scope w inner) (x.block inner)) (sym step))
     (c.measured_operation.ensures
     ∙ ap (λ d. noted faults (measured table c.in-Some.p.at 0 d))
-    (c.in_ok-done-in-Some.ensures.done ∙ ap (λ (x : ProcessPart). (x.block inner).done) (sym step))
-    ∙ ap (λ (x : ProcessPart). noted faults (measured table x.at 0 (p.block inner).done)) (sym step)))
+    (c.in_ok-done-in-Some.ensures.done ∙ ap (λ (x : SectionPart). (x.block inner).done) (sym step))
+    ∙ ap (λ (x : SectionPart). noted faults (measured table x.at 0 (p.block inner).done)) (sym step)))

@@ -4,8 +4,9 @@ use Rattle.ec_judge.specs.Chains as chains
 use Rattle.ec_judge.specs.Chains.{passed_seen}
 use Rattle.std.specs.Option.{option_copied}
 use Rattle.ec_rules.specs.Calls.{class_created}
+use Rattle.ec_rules.specs.Parts.{marks_of, values_of}
 use Rattle.ec_rules.specs.Rules.{ended}
-use Rattle.ec_rules.specs.Tree.{link_of, part_of}
+use Rattle.ec_rules.specs.Tree.{argument_of, link_of, part_of}
 use Rattle.ec_rules.proofs.Equations as equations
 use Rattle.ec_judge.proofs.Chains.{creation_head, creation_walk, valued_head}
 use Rattle.ec_judge.proofs.Passing as passing
@@ -17,8 +18,8 @@ pub find_link-returns-in_ok-found-in-Call-clause-value : goal.links::find_link-r
 find_link-returns-in_ok-found-in-Call-clause-value t c =
     rw (c.in-Call.is, equations.call_link, ← c.as_slice.ensures)
     (subst (λ x. IfOk c.find_call.result (λ l. l ≡ x))
-    (passing.call_value c.args.walk.now c.values.new.walk (passed_seen c.args.passed.now) c.in-Call.name
-    (map part_of c.as_slice.result.now) c.as_slice-in-Call.result.now
+    (passing.call_value c.args.walk.now c.argument_values.new.walk (passed_seen c.args.passed.now) c.in-Call.name
+    (values_of (map argument_of c.as_slice.result.now)) (marks_of (map argument_of c.as_slice.result.now)) c.as_slice-in-Call.result.now
     c.in_ok-found-in-Call.ensures.walk (c.as_slice-in-Call.ensures.value ∙ c.in_ok-found-in-Call.ensures.value))
     c.find_call.ensures.value)
 
@@ -26,8 +27,8 @@ pub find_link-returns-in_ok-found-in-Call-clause-walk : goal.links::find_link-re
 find_link-returns-in_ok-found-in-Call-clause-walk t c =
     rw (c.in-Call.is, equations.call_link, ← c.as_slice.ensures)
     (steps.on_ok c.find_call.result
-    (passing.call_walk c.args.walk.now c.values.new.walk (passed_seen c.args.passed.now) c.in-Call.name
-    (map part_of c.as_slice.result.now) c.as_slice-in-Call.result.now
+    (passing.call_walk c.args.walk.now c.argument_values.new.walk (passed_seen c.args.passed.now) c.in-Call.name
+    (values_of (map argument_of c.as_slice.result.now)) (marks_of (map argument_of c.as_slice.result.now)) c.as_slice-in-Call.result.now
     c.in_ok-found-in-Call.ensures.walk (c.as_slice-in-Call.ensures.value
     ∙ c.in_ok-found-in-Call.ensures.value) c.args.needed c.find_call.new.faults)
     c.find_call.ensures.faults)
