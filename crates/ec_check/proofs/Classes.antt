@@ -81,20 +81,28 @@ module _ (scope : Scope) (captures : List Text) (heading : Heading) (body : Body
 
 -- ---- headings
 
-abbrev holder_from : Name → Bool → List Parameter → BodyPart → Name → Holder
-holder_from name is_monitored parameters body end_name =
-    record { name = name; is_monitored = is_monitored; parameters = parameters; body = body; end_name = end_name }
+abbrev holder_from : Name → Bool → Bool → List Parameter → BodyPart → Name → Holder
+holder_from name is_immutable is_monitored parameters body end_name = record {
+  name = name;
+  is_immutable = is_immutable;
+  is_monitored = is_monitored;
+  parameters = parameters;
+  body = body;
+  end_name = end_name;
+}
 
-pub same_heading : {n n' : Name} {m m' : Bool} {ps qs : List Parameter} {x x' : Name} (body : BodyPart) →
-    n ≡ n' → m ≡ m' → ps ≡ qs → x ≡ x' → holder_from n m ps body x ≡ holder_from n' m' qs body x'
-same_heading {n} {n'} {m} {m'} {ps} {qs} {x} {x'} body a b c d =
-    ap (λ z. holder_from z m ps body x) a
-    ∙ ap (λ z. holder_from n' z ps body x) b
-    ∙ ap (λ z. holder_from n' m' z body x) c
-    ∙ ap (holder_from n' m' qs body) d
+pub same_heading : {n n' : Name} {i i' m m' : Bool} {ps qs : List Parameter} {x x' : Name} (body : BodyPart) →
+    n ≡ n' → i ≡ i' → m ≡ m' → ps ≡ qs → x ≡ x' → holder_from n i m ps body x ≡ holder_from n' i' m' qs body x'
+same_heading {n} {n'} {i} {i'} {m} {m'} {ps} {qs} {x} {x'} body a e b c d =
+    ap (λ z. holder_from z i m ps body x) a
+    ∙ ap (λ z. holder_from n' z m ps body x) e
+    ∙ ap (λ z. holder_from n' i' z ps body x) b
+    ∙ ap (λ z. holder_from n' i' m' z body x) c
+    ∙ ap (holder_from n' i' m' qs body) d
 
 pub class_holder : (heading : Heading) (class : Class) → holder_seen heading class.body ≡ judged_class class →
     holder_of heading class.body ≡ class_part class
 class_holder heading class e =
-    same_heading (body_of class.body) (ap (λ (h : judged.Holder). h.name) e) (ap (λ (h : judged.Holder). h.is_monitored) e)
+    same_heading (body_of class.body) (ap (λ (h : judged.Holder). h.name) e) (ap (λ (h : judged.Holder). h.is_immutable) e)
+    (ap (λ (h : judged.Holder). h.is_monitored) e)
     (ap (λ (h : judged.Holder). h.parameters) e) (ap (λ (h : judged.Holder). h.end_name) e)

@@ -20,6 +20,7 @@ use Rattle.ec_rules.specs.Calls.{Receiver, link_parts, is_last, faults_of_links,
 use Rattle.ec_rules.specs.Calls.{faults_of_head, chain_faults}
 use Rattle.ec_rules.specs.Forms.{Form, Literal, Negated, Constructor, Vector, Created, Itself, NameAlone, Other}
 use Rattle.ec_rules.specs.Judging.{member_finished, members_finished, finished_if, process_finished, faults_in_holder}
+use Rattle.ec_rules.specs.Judging.{blocks_finished}
 use Rattle.ec_rules.specs.Lists.{each, each_of}
 use Rattle.ec_rules.specs.Members.{scope_of}
 use Rattle.ec_rules.specs.Names.{unknown_types}
@@ -78,8 +79,8 @@ DeclaringPiece b d = (scope : Scope) → (b.piece scope).faults ≡ [] → Sound
 abbrev pub DeclaringStatement : StatementPart → Declarations → Type 0
 DeclaringStatement x d = (scope : Scope) → (x.part.finished scope).faults ≡ [] → SoundTypes scope.table d
 
-abbrev pub DeclaringProcess : SectionPart → Declarations → Type 0
-DeclaringProcess p d = (scope : Scope) → (process_finished scope (Some (section_judged p))).faults ≡ [] → SoundTypes scope.table d
+abbrev pub DeclaringSection : SectionPart → conform.SectionPart → Type 0
+DeclaringSection p d = DeclaringPiece p.block d.within
 
 -- of a member
 pub record SoundMemberTypes (table : Table) (m : conform.MemberPart) : Type 0 where
@@ -229,7 +230,8 @@ result_sound table (Some p) e = e
 
 -- what an operation has for others, where it is exported
 pub operation_declares : (scope : Scope) (is_monitored is_exported : Bool) (o : OperationPart) (d : Declarations) →
-    DeclaringPiece o.block d → (member_finished scope is_monitored (judged.operation (operation_judged o))).faults ≡ [] →
+    ((inner : Scope) → (blocks_finished inner (operation_judged o)).faults ≡ [] → SoundTypes inner.table d) →
+    (member_finished scope is_monitored (judged.operation (operation_judged o))).faults ≡ [] →
     SoundMemberTypes scope.table
     (record {
       name = o.name.text;

@@ -9,6 +9,7 @@ use Rattle.ec_ast.specs.declared.Link.TheVariants as l
 use Rattle.ec_ast.specs.declared.Member.TheVariants as m
 use Rattle.ec_ast.specs.declared.Statement.{Statement}
 use Rattle.ec_ast.specs.declared.Addend.{Addend, out-Addend}
+use Rattle.ec_ast.specs.declared.Argument.{Argument, out-Argument}
 use Rattle.ec_ast.specs.declared.Arm.{Arm, out-Arm}
 use Rattle.ec_ast.specs.declared.Block.{Block, out-Block}
 use Rattle.ec_ast.specs.declared.Body.{Body, out-Body}
@@ -16,16 +17,16 @@ use Rattle.ec_ast.specs.declared.Factor.{Factor, out-Factor}
 use Rattle.ec_ast.specs.declared.ObjectConstructor.{ObjectConstructor, out-ObjectConstructor}
 use Rattle.ec_ast.specs.declared.Operation.{Operation, out-Operation}
 use Rattle.ec_ast.specs.declared.Section.{Section, out-Section}
-use Rattle.ec_check.proofs.Rolled.{rolled, addend_mapped, arm_mapped, block_mapped, factor_mapped, object_mapped, operation_mapped}
+use Rattle.ec_check.proofs.Rolled.{rolled, addend_mapped, argument_mapped, arm_mapped, block_mapped, factor_mapped, object_mapped}
 use Rattle.ec_check.proofs.Rolled.{section_mapped}
 use Rattle.ec_check.specs.Parts.{AnExpression, AStatement}
-use Rattle.ec_check.specs.Tree.{expression_step, link_step, member_step, statement_step, addend_step, arm_step, block_step}
+use Rattle.ec_check.specs.Tree.{expression_step, link_step, member_step, statement_step, addend_step, argument_step, arm_step, block_step}
 use Rattle.ec_check.specs.Tree.{body_step, factor_step, object_step, operation_step, section_step, parts}
-use Rattle.ec_check.specs.Tree.{part_of, link_of, member_of, statement_of, addend_of, arm_of, block_of, body_of, factor_of}
+use Rattle.ec_check.specs.Tree.{part_of, link_of, member_of, statement_of, addend_of, argument_of, arm_of, block_of, body_of, factor_of}
 use Rattle.ec_check.specs.Tree.{object_of, operation_of, section_of}
 use Rattle.ec_ast.specs.Layers as layers
-use Rattle.ec_ast.specs.Layers.{body_with}
-use Rattle.ec_ast.proofs.Rolled.{expression_stepped, statement_stepped, addend_stepped, arm_stepped, block_stepped}
+use Rattle.ec_ast.specs.Layers.{body_with, operation_with}
+use Rattle.ec_ast.proofs.Rolled.{expression_stepped, statement_stepped, addend_stepped, argument_stepped, arm_stepped, block_stepped}
 use Rattle.ec_ast.proofs.Rolled.{body_stepped, factor_stepped, object_stepped, operation_stepped, section_stepped}
 use Rattle.ec_ast.proofs.Rolled.{link_has, member_has}
 
@@ -45,7 +46,7 @@ statement_is_step = statement_stepped rolled
 
 -- ---- links
 
-pub call_link : (name : Name) (xs : List Expression) → link_of (l.Call name xs) ≡ link_step (Link-F.Call name (map part_of xs))
+pub call_link : (name : Name) (xs : List Argument) → link_of (l.Call name xs) ≡ link_step (Link-F.Call name (map argument_of xs))
 call_link name xs = link_has rolled (l.Call name xs) (Link-F.Call name xs) (l.rolls-Call name xs)
 
 pub index_link : (x : Expression) (at : Span) → link_of (l.Index x at) ≡ link_step (Link-F.Index (part_of x) at)
@@ -80,6 +81,9 @@ factor_step_of = factor_stepped rolled
 pub addend_step_of : (x : Addend) → addend_of x ≡ addend_step (addend_mapped (out-Addend x))
 addend_step_of = addend_stepped rolled
 
+pub argument_step_of : (x : Argument) → argument_of x ≡ argument_step (argument_mapped (out-Argument x))
+argument_step_of = argument_stepped rolled
+
 pub arm_step_of : (x : Arm) → arm_of x ≡ arm_step (arm_mapped (out-Arm x))
 arm_step_of = arm_stepped rolled
 
@@ -89,7 +93,7 @@ block_step_of = block_stepped rolled
 pub process_step_of : (x : Section) → section_of x ≡ section_step (section_mapped (out-Section x))
 process_step_of = section_stepped rolled
 
-pub operation_step_of : (x : Operation) → operation_of x ≡ operation_step (operation_mapped (out-Operation x))
+pub operation_step_of : (x : Operation) → operation_of x ≡ operation_step (operation_with parts (out-Operation x))
 operation_step_of = operation_stepped rolled
 
 pub object_step_of : (x : ObjectConstructor) → object_of x ≡ object_step (object_mapped (out-ObjectConstructor x))

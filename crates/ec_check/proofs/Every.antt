@@ -18,6 +18,12 @@ pub all_of : {A : Type 0} (P : A → Type 0) (xs : List A) → Every P xs → Al
 all_of P [] h = All-nil P
 all_of P (x ∷ xs) h = All-cons P x xs h.0 (all_of P xs h.1)
 
+-- what is held of each of a list is held of what is in it
+pub each_within : {A B C : Type 0} (f : A → B) (g : B → C) (P : C → Type 0) (xs : List ((x : A) × P (g (f x)))) →
+    Every P (map g (map f (map (λ x. x.0) xs)))
+each_within f g P [] = tt
+each_within f g P (x ∷ xs) = (x.1, each_within f g P xs)
+
 pub every_joined : {A : Type 0} (P : A → Type 0) (xs ys : List A) → Every P xs → Every P ys → Every P (xs ++ ys)
 every_joined P [] ys h k = k
 every_joined P (x ∷ xs) ys h k = (h.0, every_joined P xs ys h.1 k)

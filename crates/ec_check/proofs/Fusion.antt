@@ -12,6 +12,8 @@ use Rattle.ec_ast.specs.declared.Link.{Link, roll-Link}
 use Rattle.ec_ast.specs.declared.Member.{Member, roll-Member}
 use Rattle.ec_ast.specs.declared.Statement.{Statement, roll-Statement}
 use Rattle.ec_ast.specs.declared.Addend.{Addend, roll-Addend}
+use Rattle.ec_ast.specs.declared.Argument.{Argument, roll-Argument}
+use Rattle.ec_ast.specs.declared.Carried.{Carried}
 use Rattle.ec_ast.specs.declared.Arm.{Arm, roll-Arm}
 use Rattle.ec_ast.specs.declared.Block.{Block, roll-Block}
 use Rattle.ec_ast.specs.declared.Body.{Body, roll-Body}
@@ -20,29 +22,29 @@ use Rattle.ec_ast.specs.declared.ObjectConstructor.{ObjectConstructor, roll-Obje
 use Rattle.ec_ast.specs.declared.Operation.{Operation, roll-Operation}
 use Rattle.ec_ast.specs.declared.Section.{Section, roll-Section}
 use Rattle.ec_ast.specs.declared.Expression.TheOpen.{Expression-F, Link-F, Member-F, Statement-F}
-use Rattle.ec_check.proofs.Rolled.{expression_mapped, link_mapped, member_mapped, statement_mapped, addend_mapped, arm_mapped}
+use Rattle.ec_check.proofs.Rolled.{expression_mapped, link_mapped, member_mapped, statement_mapped, addend_mapped, argument_mapped, arm_mapped}
 use Rattle.ec_check.proofs.Rolled.{body_mapped, factor_mapped, object_mapped, operation_mapped, section_mapped}
-use Rattle.ec_check.proofs.Rolled.{part_rolled, link_rolled, member_rolled, statement_rolled, addend_rolled, arm_rolled}
+use Rattle.ec_check.proofs.Rolled.{part_rolled, link_rolled, member_rolled, statement_rolled, addend_rolled, argument_rolled, arm_rolled}
 use Rattle.ec_check.proofs.Rolled.{block_rolled, body_rolled, factor_rolled, object_rolled, operation_rolled, section_rolled}
 use Rattle.ec_rules.proofs.Equations.{rolled as ruled}
 use Rattle.ec_ast.specs.Layers as layers
 use Rattle.ec_check.specs.Layers.{expression_judged, statement_judged}
-use Rattle.ec_check.specs.Parts.{Part, Piece, StatementPart}
-use Rattle.ec_check.specs.Parts.{link_judged, member_judged, addend_judged, arm_judged, body_judged, factor_judged}
+use Rattle.ec_check.specs.Parts.{Part, Piece, StatementPart, marks_of, values_of}
+use Rattle.ec_check.specs.Parts.{link_judged, member_judged, addend_judged, argument_judged, arm_judged, body_judged, factor_judged}
 use Rattle.ec_check.specs.Parts.{object_judged, operation_judged, section_judged, holder_judged}
-use Rattle.ec_check.specs.Tree.{expression_step, link_step, member_step, statement_step, addend_step, arm_step, block_step}
+use Rattle.ec_check.specs.Tree.{expression_step, link_step, member_step, statement_step, addend_step, argument_step, arm_step, block_step}
 use Rattle.ec_check.specs.Tree.{body_step, factor_step, object_step, operation_step, section_step}
-use Rattle.ec_check.specs.Tree.{part_of, link_of, member_of, statement_of, addend_of, arm_of, block_of, body_of, factor_of}
+use Rattle.ec_check.specs.Tree.{part_of, link_of, member_of, statement_of, addend_of, argument_of, arm_of, block_of, body_of, factor_of}
 use Rattle.ec_check.specs.Tree.{object_of, operation_of, section_of, class_part}
-use Rattle.ec_rules.specs.Judging.{expression_part, link_part, member_part, statement_part, addend_part, arm_part}
+use Rattle.ec_rules.specs.Judging.{expression_part, link_part, member_part, statement_part, addend_part, argument_part, arm_part}
 use Rattle.ec_rules.specs.Judging.{block_piece, body_part, factor_part, object_part, operation_part, section_part}
 use Rattle.ec_rules.specs.Judging.{block_finished}
 use Rattle.ec_rules.specs.Parts as judged
 use Rattle.ec_rules.specs.Parts.{class_with}
 use Rattle.ec_rules.specs.Tree as judged_tree
-use Rattle.ec_ast.proofs.Claims.{Claims, Passes, Held, ExpressionWith, LinkWith, MemberWith, StatementWith, AddendWith}
+use Rattle.ec_ast.proofs.Claims.{Claims, Passes, Held, trees, ExpressionWith, LinkWith, MemberWith, StatementWith, AddendWith, ArgumentWith}
 use Rattle.ec_ast.proofs.Claims.{ArmWith, BlockWith, BodyWith, FactorWith, ObjectWith, OperationWith, SectionWith, bare_expression}
-use Rattle.ec_ast.proofs.Claims.{bare_link, bare_member, bare_statement, bare_addend, bare_arm, bare_block, bare_body, bare_factor}
+use Rattle.ec_ast.proofs.Claims.{bare_link, bare_member, bare_statement, bare_addend, bare_argument, bare_arm, bare_block, bare_body, bare_factor}
 use Rattle.ec_ast.proofs.Claims.{bare_object, bare_operation, bare_section, expression_holds, link_holds}
 use Rattle.ec_ast.proofs.Claims.{statement_holds, body_holds, object_holds}
 use Rattle.ec_ast.proofs.Claims.{operation_holds}
@@ -63,6 +65,9 @@ IsSameStatement x = (statement_of x).part ≡ judged_tree.statement_of x
 
 abbrev IsSameAddend : Addend → Type 0
 IsSameAddend x = addend_judged (addend_of x) ≡ judged_tree.addend_of x
+
+abbrev IsSameArgument : Argument → Type 0
+IsSameArgument x = argument_judged (argument_of x) ≡ judged_tree.argument_of x
 
 abbrev IsSameArm : Arm → Type 0
 IsSameArm x = arm_judged (arm_of x) ≡ judged_tree.arm_of x
@@ -92,6 +97,7 @@ same = record {
   member = IsSameMember;
   statement = IsSameStatement;
   addend = IsSameAddend;
+  argument = IsSameArgument;
   arm = IsSameArm;
   block = IsSameBlock;
   body = IsSameBody;
@@ -208,9 +214,21 @@ block_at y =
 
 -- ---- the other parts
 
+-- the values of arguments, and how each goes along
+values_same : (xs : List (Held IsSameArgument)) →
+    map (λ a. a.part) (values_of (map argument_of (trees xs))) ≡ judged.values_of (map judged_tree.argument_of (trees xs))
+values_same [] = refl
+values_same (x ∷ xs) = ap₂ ◌∷◌ (ap (λ (a : judged.ArgumentPart). a.value) x.1) (values_same xs)
+
+marks_same : (xs : List (Held IsSameArgument)) →
+    marks_of (map argument_of (trees xs)) ≡ judged.marks_of (map judged_tree.argument_of (trees xs))
+marks_same [] = refl
+marks_same (x ∷ xs) = ap₂ ◌∷◌ (ap (λ (a : judged.ArgumentPart). a.carried) x.1) (marks_same xs)
+
 link_same : (y : LinkWith same) →
     link_judged (link_step (link_mapped (bare_link same y))) ≡ link_part (layers.link_mapped judged_tree.parts (bare_link same y))
-link_same (Link-F.Call name xs) = ap (judged.call name) (each_same part_of (λ p. p.part) judged_tree.part_of xs)
+link_same (Link-F.Call name xs) =
+    ap₂ (judged.call name) (values_same xs) (marks_same xs)
 link_same (Link-F.Index x at) = ap (λ p. judged.index p at) x.1
 
 link_at : (y : LinkWith same) → IsSameLink (roll-Link (bare_link same y))
@@ -242,6 +260,19 @@ addend_at : (y : AddendWith same) → IsSameAddend (roll-Addend (bare_addend sam
 addend_at y =
     ap addend_judged (addend_rolled (bare_addend same y))
     ∙ (addend_same y ∙ sym (ruled.addend (bare_addend same y)))
+
+abbrev argument_with : Option Carried → judged.Part → judged.ArgumentPart
+argument_with carried value = record { carried = carried; value = value }
+
+argument_same : (y : ArgumentWith same) →
+    argument_judged (argument_step (argument_mapped (bare_argument same y))) ≡ argument_part
+    (layers.argument_mapped judged_tree.parts (bare_argument same y))
+argument_same y = ap (argument_with y.carried) y.value.1
+
+argument_at : (y : ArgumentWith same) → IsSameArgument (roll-Argument (bare_argument same y))
+argument_at y =
+    ap argument_judged (argument_rolled (bare_argument same y))
+    ∙ (argument_same y ∙ sym (ruled.argument (bare_argument same y)))
 
 abbrev factor_with : Multiplicative → judged.Part → judged.FactorPart
 factor_with operator value = record { operator = operator; value = value }
@@ -277,37 +308,56 @@ process_same y = ap (process_with y.at) y.block.1
 process_at : (y : SectionWith same) → IsSameProcess (roll-Section (bare_section same y))
 process_at y =
     ap section_judged (section_rolled (bare_section same y))
-    ∙ (process_same y ∙ sym (ruled.process (bare_section same y)))
+    ∙ (process_same y ∙ sym (ruled.section (bare_section same y)))
 
-abbrev operation_with : Name → List Parameter → Option Parameter → Name → judged.Piece → judged.OperationPart
-operation_with name parameters result end_name block = record {
+abbrev operation_with : Name → List Parameter → Option Parameter → Name → judged.Piece → Option judged.Piece → judged.OperationPart
+operation_with name parameters result end_name block failure = record {
   name = name;
   parameters = parameters;
   result = result;
   block = block;
+  failure = failure;
   end_name = end_name;
 }
+
+abbrev with_failure : OperationWith same → Option (Held IsSameProcess) → OperationWith same
+with_failure y failure = record y { failure = failure }
+
+clauses_same : (y : OperationWith same) (failure : Option (Held IsSameProcess)) →
+    operation_judged (operation_step (operation_mapped (bare_operation same (with_failure y failure))))
+    ≡ operation_part (layers.operation_mapped judged_tree.parts (bare_operation same (with_failure y failure)))
+clauses_same y None = ap (λ b. operation_with y.name y.parameters y.result y.end_name b None) y.block.1
+clauses_same y (Some c) =
+    ap₂ (λ b f. operation_with y.name y.parameters y.result y.end_name b (Some f)) y.block.1
+    (ap (λ (s : judged.SectionPart). s.block) c.1)
 
 operation_same : (y : OperationWith same) →
     operation_judged (operation_step (operation_mapped (bare_operation same y)))
     ≡ operation_part (layers.operation_mapped judged_tree.parts (bare_operation same y))
-operation_same y = ap (operation_with y.name y.parameters y.result y.end_name) y.block.1
+operation_same y = clauses_same y y.failure
 
 operation_at : (y : OperationWith same) → IsSameOperation (roll-Operation (bare_operation same y))
 operation_at y =
     ap operation_judged (operation_rolled (bare_operation same y))
     ∙ (operation_same y ∙ sym (ruled.operation (bare_operation same y)))
 
-abbrev object_with : Span → Name → Bool → Name → judged.BodyPart → judged.ObjectPart
-object_with at name is_monitored end_name body = record {
+abbrev object_with : Span → Name → Bool → Bool → Name → judged.BodyPart → judged.ObjectPart
+object_with at name is_immutable is_monitored end_name body = record {
   at = at;
-  holder = record { name = name; is_monitored = is_monitored; parameters = []; body = body; end_name = end_name };
+  holder = record {
+    name = name;
+    is_immutable = is_immutable;
+    is_monitored = is_monitored;
+    parameters = [];
+    body = body;
+    end_name = end_name;
+  };
 }
 
 object_same : (y : ObjectWith same) →
     object_judged (object_step (object_mapped (bare_object same y))) ≡ object_part
     (layers.object_mapped judged_tree.parts (bare_object same y))
-object_same y = ap (object_with y.at y.name y.is_monitored y.end_name) y.body.1
+object_same y = ap (object_with y.at y.name y.is_immutable y.is_monitored y.end_name) y.body.1
 
 object_at : (y : ObjectWith same) → IsSameObject (roll-ObjectConstructor (bare_object same y))
 object_at y =
@@ -317,23 +367,24 @@ object_at y =
 abbrev body_with : List judged.MemberPart → Option judged.Piece → Option judged.SectionPart → judged.BodyPart
 body_with members initially process = record { members = members; initially = initially; process = process }
 
-abbrev body_layer : List (Held IsSameMember) → Option (Held IsSameBlock) → Option (Held IsSameProcess) → BodyWith same
-body_layer ms i p = record { members = ms; initially = i; process = p }
+abbrev body_layer : List (Held IsSameMember) → Option (Held IsSameProcess) → Option (Held IsSameProcess) → Span → BodyWith same
+body_layer ms i p at = record { members = ms; initially = i; process = p; end_at = at }
 
-body_parts_same : (ms : List (Held IsSameMember)) (i : Option (Held IsSameBlock)) (p : Option (Held IsSameProcess)) →
-    body_judged (body_step (body_mapped (bare_body same (body_layer ms i p))))
-    ≡ body_part (layers.body_mapped judged_tree.parts (bare_body same (body_layer ms i p)))
-body_parts_same ms None None = ap (λ m. body_with m None None) (each_same member_of member_judged judged_tree.member_of ms)
-body_parts_same ms None (Some p) =
+body_parts_same : (ms : List (Held IsSameMember)) (i p : Option (Held IsSameProcess)) (at : Span) →
+    body_judged (body_step (body_mapped (bare_body same (body_layer ms i p at))))
+    ≡ body_part (layers.body_mapped judged_tree.parts (bare_body same (body_layer ms i p at)))
+body_parts_same ms None None at = ap (λ m. body_with m None None) (each_same member_of member_judged judged_tree.member_of ms)
+body_parts_same ms None (Some p) at =
     ap₂ (λ m x. body_with m None (Some x)) (each_same member_of member_judged judged_tree.member_of ms) p.1
-body_parts_same ms (Some i) None =
-    ap₂ (λ m b. body_with m (Some b) None) (each_same member_of member_judged judged_tree.member_of ms) i.1
-body_parts_same ms (Some i) (Some p) =
-    ap₃ (λ m b x. body_with m (Some b) (Some x)) (each_same member_of member_judged judged_tree.member_of ms) i.1 p.1
+body_parts_same ms (Some i) None at =
+    ap₂ (λ m b. body_with m (Some b) None) (each_same member_of member_judged judged_tree.member_of ms) (ap (λ (s : judged.SectionPart). s.block) i.1)
+body_parts_same ms (Some i) (Some p) at =
+    ap₃ (λ m b x. body_with m (Some b) (Some x)) (each_same member_of member_judged judged_tree.member_of ms)
+    (ap (λ (s : judged.SectionPart). s.block) i.1) p.1
 
 body_same : (y : BodyWith same) →
     body_judged (body_step (body_mapped (bare_body same y))) ≡ body_part (layers.body_mapped judged_tree.parts (bare_body same y))
-body_same y = body_parts_same y.members y.initially y.process
+body_same y = body_parts_same y.members y.initially y.process y.end_at
 
 body_at : (y : BodyWith same) → IsSameBody (roll-Body (bare_body same y))
 body_at y = ap body_judged (body_rolled (bare_body same y)) ∙ (body_same y ∙ sym (ruled.body (bare_body same y)))
@@ -347,6 +398,7 @@ passes = record {
   member = member_at;
   statement = statement_at;
   addend = addend_at;
+  argument = argument_at;
   arm = arm_at;
   block = block_at;
   body = body_at;

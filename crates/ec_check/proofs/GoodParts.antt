@@ -14,14 +14,16 @@ use Rattle.ec_ast.specs.declared.Section.{Section}
 use Rattle.ec_places.proofs.DeclaredRolled.{in_operation}
 use Rattle.ec_check.proofs.DeclaringParts.{DeclaringPart, DeclaringLink, DeclaringMember, DeclaringStatement, DeclaringAddend, DeclaringArm}
 use Rattle.ec_check.proofs.DeclaringParts.{DeclaringPiece, DeclaringBody, DeclaringFactor, DeclaringObject, DeclaringOperation}
-use Rattle.ec_check.proofs.DeclaringParts.{DeclaringProcess}
+use Rattle.ec_check.proofs.DeclaringParts.{DeclaringSection}
 use Rattle.ec_check.proofs.SoundParts.{SoundPart, SoundLink, SoundMember, SoundStatement, SoundAddend, SoundArm, SoundPiece, SoundBody}
 use Rattle.ec_check.proofs.SoundParts.{SoundFactor, SoundConstructor, SoundOperation, SoundProcess}
 use Rattle.ec_check.specs.Tree.{part_of, link_of, member_of, statement_of, addend_of, arm_of, block_of, body_of, factor_of}
 use Rattle.ec_check.specs.Tree.{object_of, operation_of, section_of}
+use Rattle.ec_check.specs.Tree.{argument_of}
 use Rattle.ec_types.specs.Declarations.{in_expression, in_link, in_member, in_statement, in_addend, in_arm, in_block, in_body}
-use Rattle.ec_types.specs.Declarations.{in_factor, in_constructor, in_process}
+use Rattle.ec_types.specs.Declarations.{in_argument, in_factor, in_constructor, in_section}
 use Rattle.ec_ast.proofs.Claims.{Claims}
+use Rattle.ec_ast.specs.declared.Argument.{Argument}
 
 -- ---- good parts
 
@@ -39,6 +41,9 @@ IsGoodStatement x = SoundStatement (statement_of x) × DeclaringStatement (state
 
 abbrev pub IsGoodAddend : Addend → Type 0
 IsGoodAddend x = SoundAddend (addend_of x) × DeclaringAddend (addend_of x) (in_addend x)
+
+abbrev pub IsGoodArgument : Argument → Type 0
+IsGoodArgument x = SoundPart (argument_of x).value × DeclaringPart (argument_of x).value (in_argument x)
 
 abbrev pub IsGoodArm : Arm → Type 0
 IsGoodArm x = SoundArm (arm_of x) × DeclaringArm (arm_of x) (in_arm x)
@@ -59,7 +64,7 @@ abbrev pub IsGoodOperation : Operation → Type 0
 IsGoodOperation x = SoundOperation (operation_of x) × DeclaringOperation (operation_of x) (in_operation x)
 
 abbrev pub IsGoodProcess : Section → Type 0
-IsGoodProcess x = SoundProcess (section_of x) × DeclaringProcess (section_of x) (in_process x)
+IsGoodProcess x = SoundProcess (section_of x) × DeclaringSection (section_of x) (in_section x)
 
 -- what is claimed of a part of each kind
 abbrev pub good : Claims
@@ -69,6 +74,7 @@ good = record {
   member = IsGoodMember;
   statement = IsGoodStatement;
   addend = IsGoodAddend;
+  argument = IsGoodArgument;
   arm = IsGoodArm;
   block = IsGoodBlock;
   body = IsGoodBody;

@@ -14,7 +14,7 @@ use Rattle.ec_check.proofs.Fusion.{same_object}
 use Rattle.ec_check.proofs.Headings.{same_env}
 use Rattle.ec_check.proofs.Steps.{gone_same, kept as kept_scope, made_gone, made_joined, same_made}
 use Rattle.ec_check.specs.Making.{HasGone, HasMade, env_of, holder_of, made_of}
-use Rattle.ec_check.specs.Parts.{Made, both_made, BodyPart, Holder, MemberPart, ObjectPart, Piece, SectionPart, variable, constant}
+use Rattle.ec_check.specs.Parts.{Made, both_made, BodyPart, Holder, MemberPart, ObjectPart, Piece, SectionPart, block_in, variable, constant}
 use Rattle.ec_check.specs.Parts.{condition, operation}
 use Rattle.ec_check.specs.Parts.{holder_judged}
 use Rattle.ec_check.specs.Places.{Env, place_of}
@@ -25,7 +25,7 @@ use Rattle.ec_check.specs.Resolving.{initial_operation, initially_core, initiall
 use Rattle.ec_check.specs.Resolving.{member_made, members_made}
 use Rattle.ec_check.specs.Resolving.{number_of_holder, process_made}
 use Rattle.ec_check.specs.Resolving as spec
-use Rattle.ec_check.specs.Tree.{block_of, body_of, body_step, member_of, object_of, object_step, section_of}
+use Rattle.ec_check.specs.Tree.{body_of, body_step, member_of, object_of, object_step, section_of}
 use Rattle.ec_check.specs.declared.resolver.Resolver.{Resolver}
 use Rattle.ec_check.specs.declared.variables.Variables.{Variables}
 use Rattle.ec_types.specs.Types.{number_at}
@@ -90,7 +90,7 @@ body_part_gone : (class : ℕ) (h : Holder) (old behind_members behind_initially
     name ≡ h.name.text →
     pushed
     ≡ before
-    ++ operation_from class kind.Initial name h.name.at.from false 0 false variables.types (block_with statements) ∷ [] →
+    ++ operation_from class kind.Initial name h.name.at.from false 0 false variables.types (block_with statements) None ∷ [] →
     all ≡ pushed ++ within →
     HasGone (with_operations all (with_variables kept behind_initially)) new
     (behind_process (env_of (with_operations all (with_variables kept behind_initially))) h.body.process) []
@@ -104,7 +104,7 @@ body_part_gone class h old behind_members behind_initially new fresh none stored
     let start = at_start (env_of old) in
     let members = members_made class (env_of old) h.body.members in
     let block = initially_made scope first in
-    let own = operation_from class kind.Initial name h.name.at.from false 0 false variables.types (block_with statements) in
+    let own = operation_from class kind.Initial name h.name.at.from false 0 false variables.types (block_with statements) None in
     let just = just_operation (initial_operation class (env_of old) h) in
     let between = with_operations all (with_variables kept behind_initially) in
     let begun : Made = record { classes = old.made.classes; operations = none } in
@@ -123,7 +123,7 @@ body_part_gone class h old behind_members behind_initially new fresh none stored
     s ∙ ap (λ x. x ++ initially_core (env_of behind_members) first) (b ∙ ap (λ x. each (field_stored x) h.body.members) env)
     ∙ ap (λ x. each (field_stored start) h.body.members ++ initially_core x first) (m.place ∙ env) in
     let same : own ≡ initial_operation class (env_of old) h =
-    same_operation_from class kind.Initial h.name.at.from false f refl refl numbered (ap block_with same_statements) in
+    same_operation_from class kind.Initial h.name.at.from false f refl refl numbered (ap block_with same_statements) refl in
     let place : env_of between ≡ env_of old =
     same_env (ap (λ (x : Env). x.scope) i.place ∙ own_scope) (ap (λ (x : Env). x.captures) i.place ∙ ap (λ (x : Env). x.captures) m.place)
     (ap (λ (x : Variables). x.numbers.items) r) (ap (λ (x : Variables). length x.types) r) in
@@ -146,13 +146,15 @@ body_part_gone class h old behind_members behind_initially new fresh none stored
 abbrev body_part : Body → BodyPart
 body_part b = body_step (record {
   members = map member_of (out-Body b).members;
-  initially = option_map block_of (out-Body b).initially;
+  initially = option_map section_of (out-Body b).initially;
   process = option_map section_of (out-Body b).process;
+  end_at = (out-Body b).end_at;
 })
 
 abbrev holder_with : Heading → BodyPart → Holder
 holder_with heading body = record {
   name = heading.name.now;
+  is_immutable = heading.is_immutable;
   is_monitored = heading.is_monitored;
   parameters = heading.parameters.now;
   body = body;
@@ -177,10 +179,10 @@ pub body_gone : (class : ℕ) (body : Body) (heading : Heading) (old behind_memb
     HasMade (with_operations none (with_variables fresh old)) behind_members
     (members_made class (env_of (with_variables fresh old)) (map member_of seen)) →
     HasGone behind_members behind_initially
-    (further (length (locals_of_block behind_members.walk.scope (option_map block_of (out-Body body).initially))) (env_of behind_members))
-    (locals_of_block behind_members.walk.scope (option_map block_of (out-Body body).initially))
-    (initially_made behind_members.walk.scope (option_map block_of (out-Body body).initially)) →
-    statements ≡ stored ++ initially_core (env_of behind_members) (option_map block_of (out-Body body).initially) →
+    (further (length (locals_of_block behind_members.walk.scope (block_in (option_map section_of (out-Body body).initially)))) (env_of behind_members))
+    (locals_of_block behind_members.walk.scope (block_in (option_map section_of (out-Body body).initially)))
+    (initially_made behind_members.walk.scope (block_in (option_map section_of (out-Body body).initially))) →
+    statements ≡ stored ++ initially_core (env_of behind_members) (block_in (option_map section_of (out-Body body).initially)) →
     within ≡ behind_initially.made.operations →
     before ≡ old.made.operations →
     variables ≡ behind_initially.variables →
@@ -189,7 +191,7 @@ pub body_gone : (class : ℕ) (body : Body) (heading : Heading) (old behind_memb
     pushed
     ≡ before
     ++ operation_from class kind.Initial name heading.name.now.at.from false 0 false variables.types
-    (block_with statements) ∷ [] →
+    (block_with statements) None ∷ [] →
     all ≡ pushed ++ within →
     HasGone (with_operations all (with_variables kept behind_initially)) new
     (behind_process (env_of (with_operations all (with_variables kept behind_initially)))
@@ -314,28 +316,32 @@ module _ (body : Body) (heading : Heading) (old entered done : Resolver) (number
 abbrev object_part : ObjectConstructor → ObjectPart
 object_part o = object_step (record {
   at = (out-ObjectConstructor o).at;
+  object_at = (out-ObjectConstructor o).object_at;
+  is_immutable = (out-ObjectConstructor o).is_immutable;
   is_monitored = (out-ObjectConstructor o).is_monitored;
   name = (out-ObjectConstructor o).name;
   body = body_of (out-ObjectConstructor o).body;
   end_name = (out-ObjectConstructor o).end_name;
 })
 
-abbrev holder_from : BodyPart → Name → Bool → List Parameter → Name → Holder
-holder_from body name is_monitored parameters end_name = record {
+abbrev holder_from : BodyPart → Name → Bool → Bool → List Parameter → Name → Holder
+holder_from body name is_immutable is_monitored parameters end_name = record {
   name = name;
+  is_immutable = is_immutable;
   is_monitored = is_monitored;
   parameters = parameters;
   body = body;
   end_name = end_name;
 }
 
-same_holder_from : (body : BodyPart) {n m : Name} {a b : Bool} {p q : List Parameter} {k l : Name} →
-    n ≡ m → a ≡ b → p ≡ q → k ≡ l → holder_from body n a p k ≡ holder_from body m b q l
-same_holder_from body {n} {m} {a} {b} {p} {q} {k} {l} f g h i =
-    ap (λ x. holder_from body x a p k) f
-    ∙ ap (λ x. holder_from body m x p k) g
-    ∙ ap (λ x. holder_from body m b x k) h
-    ∙ ap (holder_from body m b q) i
+same_holder_from : (body : BodyPart) {n m : Name} {c d a b : Bool} {p q : List Parameter} {k l : Name} →
+    n ≡ m → c ≡ d → a ≡ b → p ≡ q → k ≡ l → holder_from body n c a p k ≡ holder_from body m d b q l
+same_holder_from body {n} {m} {c} {d} {a} {b} {p} {q} {k} {l} f j g h i =
+    ap (λ x. holder_from body x c a p k) f
+    ∙ ap (λ x. holder_from body m x a p k) j
+    ∙ ap (λ x. holder_from body m d x p k) g
+    ∙ ap (λ x. holder_from body m d b x k) h
+    ∙ ap (holder_from body m d b q) i
 
 -- The heading of an object constructor, with the body, is what the tree makes of it.
 pub heading_of_object : (object : ObjectConstructor) (heading : Heading) →
@@ -346,7 +352,8 @@ heading_of_object object heading e =
     let seen : holder_seen heading body ≡ holder_judged (object_part object).holder =
     e ∙ ap (λ (x : judged.ObjectPart). x.holder) (sym (same_object object))
     ∙ ap (λ (x : ObjectPart). holder_judged x.holder) (object_step_of object) in
-    same_holder_from (body_of body) (ap (λ (x : judged.Holder). x.name) seen) (ap (λ (x : judged.Holder). x.is_monitored) seen)
+    same_holder_from (body_of body) (ap (λ (x : judged.Holder). x.name) seen) (ap (λ (x : judged.Holder). x.is_immutable) seen)
+    (ap (λ (x : judged.Holder). x.is_monitored) seen)
     (ap (λ (x : judged.Holder). x.parameters) seen) (ap (λ (x : judged.Holder). x.end_name) seen)
     ∙ sym (ap (λ (x : ObjectPart). x.holder) (object_step_of object))
 

@@ -1,5 +1,6 @@
 -- Chains: what stands before the links, and the links.
 use Rattle.std.proofs.Common.{◌≡◌, List, [], ◌∷◌, ◌++◌, map, refl, sym, ap, ◌∙◌}
+use Rattle.ec_ast.specs.declared.Argument.{Argument}
 use Rattle.ec_ast.specs.declared.Expression.{Expression}
 use Rattle.ec_ast.specs.declared.Link.{Link}
 use Rattle.ec_ast.specs.declared.Link.TheVariants as l
@@ -9,12 +10,12 @@ use Rattle.ec_check.proofs.Equations.{call_link, index_link}
 use Rattle.ec_check.proofs.Fusion.{same_link, same_links, same_part}
 use Rattle.ec_check.proofs.Steps.{kept, made_joined, made_none, same_made}
 use Rattle.ec_check.specs.Making.{HasMade, env_of}
-use Rattle.ec_check.specs.Parts.{LinkPart, Made, Part, both_made, link_judged}
+use Rattle.ec_check.specs.Parts.{LinkPart, Made, Part, both_made, link_judged, values_of}
 use Rattle.ec_check.specs.Places.{type_or}
 use Rattle.ec_check.specs.Resolving as spec
 use Rattle.ec_check.specs.Resolving.{all_made, chain_parts, cores_of, head_core, head_parts, link_core, link_parts, links_core}
 use Rattle.ec_check.specs.Resolving.{parts_of_links}
-use Rattle.ec_check.specs.Tree.{link_of, part_of}
+use Rattle.ec_check.specs.Tree.{argument_of, link_of, part_of}
 use Rattle.ec_check.specs.declared.resolver.Resolver.{Resolver}
 use Rattle.ec_core.specs.declared.Expression.{Expression as Core}
 use Rattle.ec_core.specs.declared.Link.{Link as CoreLink}
@@ -49,20 +50,20 @@ called_with scope before name arguments =
     spec.called (spec.builtin_of (type_of_receiver scope before) name) name arguments (result_of (callee scope before name))
 
 module _ (old new : Resolver) (before : Receiver) (x : Link) where
-  pub call_core : {m : Made} (name : Name) (arguments slice : List Expression) (found : List Core) →
-      HasMade old new m → found ≡ cores_of (env_of old) (map part_of slice) → slice ≡ arguments → x ≡ l.Call name arguments →
+  pub call_core : {m : Made} (name : Name) (arguments slice : List Argument) (found : List Core) →
+      HasMade old new m → found ≡ cores_of (env_of old) (values_of (map argument_of slice)) → slice ≡ arguments → x ≡ l.Call name arguments →
       called_with new.walk.scope before name found ≡ link_core (env_of old) before (link_of x)
   call_core name arguments slice found h f s e =
       ap (λ scope. called_with scope before name found) (kept h)
-      ∙ ap (called_with old.walk.scope before name) (f ∙ ap (λ xs. cores_of (env_of old) (map part_of xs)) s)
+      ∙ ap (called_with old.walk.scope before name) (f ∙ ap (λ xs. cores_of (env_of old) (values_of (map argument_of xs))) s)
       ∙ ap (link_core (env_of old) before) (sym (ap link_of e ∙ call_link name arguments))
 
-  pub call_made : (name : Name) (arguments slice : List Expression) →
-      HasMade old new (all_made old.walk.scope (map part_of slice)) → slice ≡ arguments → x ≡ l.Call name arguments →
+  pub call_made : (name : Name) (arguments slice : List Argument) →
+      HasMade old new (all_made old.walk.scope (values_of (map argument_of slice))) → slice ≡ arguments → x ≡ l.Call name arguments →
       HasMade old new (all_made old.walk.scope (link_parts (link_of x)))
   call_made name arguments slice h s e =
       same_made
-      (ap (λ xs. all_made old.walk.scope (map part_of xs)) s
+      (ap (λ xs. all_made old.walk.scope (values_of (map argument_of xs))) s
       ∙ ap (λ y. all_made old.walk.scope (link_parts y)) (sym (ap link_of e ∙ call_link name arguments)))
       h
 

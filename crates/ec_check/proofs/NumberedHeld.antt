@@ -16,9 +16,11 @@ use Rattle.ec_check.proofs.NumberedKinds.{NumberedPart, NumberedLink, NumberedMe
 use Rattle.ec_check.proofs.NumberedKinds.{NumberedPiece, NumberedBody, NumberedFactor, NumberedObject, NumberedOperation, NumberedProcess}
 use Rattle.ec_check.specs.Tree.{part_of, link_of, member_of, statement_of, addend_of, arm_of, block_of, body_of, factor_of}
 use Rattle.ec_check.specs.Tree.{object_of, operation_of, section_of}
+use Rattle.ec_check.specs.Tree.{argument_of}
 use Rattle.ec_types.specs.Declarations.{in_expression, in_link, in_member, in_statement, in_addend, in_arm, in_block, in_body}
-use Rattle.ec_types.specs.Declarations.{in_factor, in_constructor, in_process}
+use Rattle.ec_types.specs.Declarations.{in_argument, in_factor, in_constructor, in_section}
 use Rattle.ec_ast.proofs.Claims.{Claims}
+use Rattle.ec_ast.specs.declared.Argument.{Argument}
 
 -- ---- each kind of part
 
@@ -36,6 +38,9 @@ IsNumberedStatement x = NumberedStatement (statement_of x) (in_statement x)
 
 abbrev pub IsNumberedAddend : Addend → Type 0
 IsNumberedAddend x = NumberedAddend (addend_of x) (in_addend x)
+
+abbrev pub IsNumberedArgument : Argument → Type 0
+IsNumberedArgument x = NumberedPart (argument_of x).value (in_argument x)
 
 abbrev pub IsNumberedArm : Arm → Type 0
 IsNumberedArm x = NumberedArm (arm_of x) (in_arm x)
@@ -56,7 +61,7 @@ abbrev pub IsNumberedOperation : Operation → Type 0
 IsNumberedOperation x = NumberedOperation (operation_of x) (in_operation x)
 
 abbrev pub IsNumberedProcess : Section → Type 0
-IsNumberedProcess x = NumberedProcess (section_of x) (in_process x)
+IsNumberedProcess x = NumberedProcess (section_of x) (in_section x)
 
 -- what is claimed of a part of each kind
 abbrev pub numbered : Claims
@@ -66,6 +71,7 @@ numbered = record {
   member = IsNumberedMember;
   statement = IsNumberedStatement;
   addend = IsNumberedAddend;
+  argument = IsNumberedArgument;
   arm = IsNumberedArm;
   block = IsNumberedBlock;
   body = IsNumberedBody;

@@ -17,12 +17,13 @@ use Rattle.ec_ast.specs.declared.Expression.TheOpen.{Expression-F, Link-F, Membe
 use Rattle.ec_places.proofs.DeclaredRolled.{expression_declared, link_declared, member_declared, statement_declared}
 use Rattle.ec_places.proofs.DeclaredRolled.{addend_declared, arm_declared}
 use Rattle.ec_places.proofs.DeclaredRolled.{block_declared, body_declared, factor_declared, object_declared, operation_declared}
-use Rattle.ec_places.proofs.DeclaredRolled.{process_declared}
+use Rattle.ec_places.proofs.DeclaredRolled.{section_declared}
 use Rattle.ec_places.proofs.DeclaredRolled.{expression_declares, link_declares, member_declares, statement_declares}
 use Rattle.ec_places.proofs.DeclaredRolled.{addend_declares, arm_declares}
 use Rattle.ec_places.proofs.DeclaredRolled.{block_declares, body_declares, factor_declares, object_declares, operation_declares}
-use Rattle.ec_places.proofs.DeclaredRolled.{process_declares}
+use Rattle.ec_places.proofs.DeclaredRolled.{section_declares}
 use Rattle.ec_places.proofs.DeclaredRolled.{in_operation}
+use Rattle.ec_places.proofs.DeclaredRolled.{argument_declares}
 use Rattle.ec_check.proofs.DeclaringParts.{EveryPair}
 use Rattle.ec_check.proofs.Every.{none_left, none_right}
 use Rattle.ec_check.proofs.GoodExpressions.{each_pair}
@@ -38,16 +39,19 @@ use Rattle.ec_check.proofs.Rolled.{body_mapped, factor_mapped, object_mapped, op
 use Rattle.ec_check.proofs.Rolled.{part_rolled, link_rolled, member_rolled, statement_rolled, addend_rolled, arm_rolled}
 use Rattle.ec_check.proofs.Rolled.{block_rolled, body_rolled}
 use Rattle.ec_check.proofs.Rolled.{factor_rolled, object_rolled, operation_rolled, section_rolled}
+use Rattle.ec_check.proofs.Rolled.{argument_rolled}
 use Rattle.ec_check.specs.Layers.{expression_judged, statement_judged}
 use Rattle.ec_check.specs.Parts.{ArmPart, StatementPart, both_made, arm_judged, operation_judged}
+use Rattle.ec_check.specs.Parts.{values_of, OperationPart}
 use Rattle.ec_check.specs.Resolving.{expression_made, statement_made, statements_made, arms_made, operation_core, process_operation}
 use Rattle.ec_check.specs.Tree.{expression_step, link_step, member_step, statement_step, addend_step, arm_step, block_step}
 use Rattle.ec_check.specs.Tree.{body_step, factor_step}
 use Rattle.ec_check.specs.Tree.{object_step, operation_step, section_step}
 use Rattle.ec_check.specs.Tree.{part_of, link_of, member_of, statement_of, addend_of, arm_of, block_of, factor_of, section_of}
+use Rattle.ec_check.specs.Tree.{argument_of}
 use Rattle.ec_types.specs.Declarations as conform
 use Rattle.ec_types.specs.Declarations.{joined, in_expression, in_link, in_member, in_statement, in_addend, in_arm, in_block, in_body}
-use Rattle.ec_types.specs.Declarations.{in_factor, in_constructor, in_process}
+use Rattle.ec_types.specs.Declarations.{in_argument, in_factor, in_constructor, in_section}
 use Rattle.ec_types.specs.declared.conform.declared.Declarations.{Declarations}
 use Rattle.ec_rules.specs.Judging.{expression_part, statement_part, faults_of, statement_finished, block_finished}
 use Rattle.ec_rules.specs.Lists.{each}
@@ -61,10 +65,14 @@ use Rattle.ec_types.specs.Scopes.{declaring, in_a_loop, in_a_process}
 use Rattle.ec_check.proofs.NumberedHeld.{IsNumberedPart, IsNumberedLink, IsNumberedMember, IsNumberedStatement, IsNumberedAddend}
 use Rattle.ec_check.proofs.NumberedHeld.{IsNumberedArm, IsNumberedBlock, IsNumberedBody, IsNumberedFactor, IsNumberedObject}
 use Rattle.ec_check.proofs.NumberedHeld.{IsNumberedOperation, IsNumberedProcess, numbered}
+use Rattle.ec_check.proofs.NumberedHeld.{IsNumberedArgument}
 use Rattle.ec_ast.proofs.Claims.{Passes, Held, trees, ExpressionWith, LinkWith, MemberWith, StatementWith, AddendWith, ArmWith}
 use Rattle.ec_ast.proofs.Claims.{BlockWith, BodyWith, FactorWith, ObjectWith, OperationWith, SectionWith, bare_expression}
 use Rattle.ec_ast.proofs.Claims.{bare_link, bare_member, bare_statement, bare_addend, bare_arm, bare_block, bare_body, bare_factor}
 use Rattle.ec_ast.proofs.Claims.{bare_object, bare_operation, bare_section, expression_holds, body_holds}
+use Rattle.ec_ast.proofs.Claims.{ArgumentWith, bare_argument}
+use Rattle.ec_ast.specs.declared.Argument.{roll-Argument}
+use Rattle.ec_ast.specs.declared.Span.{Span}
 
 -- ---- expressions
 
@@ -281,10 +289,21 @@ block_at y =
 
 -- ---- links, factors and addends
 
+argument_pairs : (xs : List (Held IsNumberedArgument)) →
+    EveryPair NumberedPart (values_of (map argument_of (trees xs))) (map in_argument (trees xs))
+argument_pairs [] = tt
+argument_pairs (x ∷ xs) = (x.1, argument_pairs xs)
+
+argument_at : (y : ArgumentWith numbered) → IsNumberedArgument (roll-Argument (bare_argument numbered y))
+argument_at y =
+    subst (λ a. NumberedPart a.value (in_argument (roll-Argument (bare_argument numbered y))))
+    (sym (argument_rolled (bare_argument numbered y)))
+    (subst (NumberedPart (part_of y.value.0)) (sym (argument_declares (bare_argument numbered y))) y.value.1)
+
 link_is : (y : LinkWith numbered) →
     NumberedLink (link_step (link_mapped (bare_link numbered y))) (conform.link_step (link_declared (bare_link numbered y)))
 link_is (Link-F.Call name xs) = λ scope.
-    parts_numbered scope (map part_of (trees xs)) (map in_expression (trees xs)) (pairs xs)
+    parts_numbered scope (values_of (map argument_of (trees xs))) (map in_argument (trees xs)) (argument_pairs xs)
 link_is (Link-F.Index x at) = λ scope. one_numbered (λ e. none_left _ _ e) (x.1 true scope)
 
 link_at : (y : LinkWith numbered) → IsNumberedLink (roll-Link (bare_link numbered y))
@@ -340,19 +359,37 @@ member_at y =
     (subst (NumberedMember (member_step (member_mapped (bare_member numbered y)))) (sym (member_declares (bare_member numbered y)))
     (member_is y))
 
+abbrev with_failure : OperationWith numbered → Option (Held IsNumberedProcess) → OperationWith numbered
+with_failure y failure = record y { failure = failure }
+
+abbrev operation_part : OperationWith numbered → Option (Held IsNumberedProcess) → OperationPart
+operation_part y failure = operation_step (operation_mapped (bare_operation numbered (with_failure y failure)))
+
+clauses_are : (y : OperationWith numbered) (failure : Option (Held IsNumberedProcess)) →
+    NumberedOperation (operation_part y failure) (conform.operation_step (operation_declared (bare_operation numbered (with_failure y failure))))
+clauses_are y None = record {
+  declares = record { name = refl; operations = refl };
+  made = λ class env is_monitored.
+      let o = operation_part y None in
+      let inner = scope_of_operation env.scope (operation_judged o) in
+      in_within (λ e. none_left _ _ (none_left _ _ e))
+      (both_in (named_in env.scope.table (operation_core class env o) refl)
+      (within_class class (both_numbered (y.block.1 inner) nothing_numbered)));
+}
+clauses_are y (Some c) = record {
+  declares = record { name = refl; operations = refl };
+  made = λ class env is_monitored.
+      let o = operation_part y (Some c) in
+      let inner = scope_of_operation env.scope (operation_judged o) in
+      in_within (λ e. none_left _ _ (none_left _ _ e))
+      (both_in (named_in env.scope.table (operation_core class env o) refl)
+      (within_class class (both_numbered (y.block.1 inner) (c.1 inner))));
+}
+
 operation_is : (y : OperationWith numbered) →
     NumberedOperation (operation_step (operation_mapped (bare_operation numbered y)))
     (conform.operation_step (operation_declared (bare_operation numbered y)))
-operation_is y = record {
-  declares = record { name = refl; operations = refl };
-  made = λ class env is_monitored.
-      in_within (λ e. none_left _ _ (none_left _ _ e))
-      (both_in
-      (named_in env.scope.table (operation_core class env (operation_step (operation_mapped (bare_operation numbered y)))) refl)
-      (within_class class
-      (y.block.1
-      (scope_of_operation env.scope (operation_judged (operation_step (operation_mapped (bare_operation numbered y))))))));
-}
+operation_is y = clauses_are y y.failure
 
 operation_at : (y : OperationWith numbered) → IsNumberedOperation (roll-Operation (bare_operation numbered y))
 operation_at y =
@@ -365,27 +402,28 @@ operation_at y =
 
 process_is : (y : SectionWith numbered) →
     NumberedProcess (section_step (section_mapped (bare_section numbered y)))
-    (conform.section_step (process_declared (bare_section numbered y)))
-process_is y = λ scope. y.block.1 scope
+    (conform.section_step (section_declared (bare_section numbered y)))
+process_is y = y.block.1
 
 process_at : (y : SectionWith numbered) → IsNumberedProcess (roll-Section (bare_section numbered y))
 process_at y =
-    subst (λ x. NumberedProcess x (in_process (roll-Section (bare_section numbered y))))
+    subst (λ x. NumberedProcess x (in_section (roll-Section (bare_section numbered y))))
     (sym (section_rolled (bare_section numbered y)))
-    (subst (NumberedProcess (section_step (section_mapped (bare_section numbered y)))) (sym (process_declares (bare_section numbered y)))
+    (subst (NumberedProcess (section_step (section_mapped (bare_section numbered y)))) (sym (section_declares (bare_section numbered y)))
     (process_is y))
 
-abbrev body_layer : List (Held IsNumberedMember) → Option (Held IsNumberedBlock) → Option (Held IsNumberedProcess) → BodyWith numbered
-body_layer ms i p = record { members = ms; initially = i; process = p }
+abbrev body_layer : List (Held IsNumberedMember) → Option (Held IsNumberedProcess) → Option (Held IsNumberedProcess) → Span →
+    BodyWith numbered
+body_layer ms i p at = record { members = ms; initially = i; process = p; end_at = at }
 
 member_pairs : (ms : List (Held IsNumberedMember)) →
     EveryPair NumberedMember (map member_of (trees ms)) (map in_member (trees ms))
 member_pairs = each_pair member_of in_member IsNumberedMember NumberedMember (λ x q. q)
 
-body_is : (ms : List (Held IsNumberedMember)) (i : Option (Held IsNumberedBlock)) (p : Option (Held IsNumberedProcess)) →
-    NumberedBody (body_step (body_mapped (bare_body numbered (body_layer ms i p))))
-    (conform.body_step (body_declared (bare_body numbered (body_layer ms i p))))
-body_is ms None None = record {
+body_is : (ms : List (Held IsNumberedMember)) (i p : Option (Held IsNumberedProcess)) (at : Span) →
+    NumberedBody (body_step (body_mapped (bare_body numbered (body_layer ms i p at))))
+    (conform.body_step (body_declared (bare_body numbered (body_layer ms i p at))))
+body_is ms None None at = record {
   first = [];
   last = [];
   types = refl;
@@ -393,9 +431,9 @@ body_is ms None None = record {
   initially = λ scope. nothing_numbered;
   process = λ class env name. within_class class nothing_numbered;
 }
-body_is ms None (Some p) = record {
+body_is ms None (Some p) at = record {
   first = [];
-  last = (in_process p.0).types;
+  last = (in_section p.0).within.types;
   types = refl;
   members = member_pairs ms;
   initially = λ scope. nothing_numbered;
@@ -404,17 +442,17 @@ body_is ms None (Some p) = record {
       (both_in (nameless_in env.scope.table (process_operation class env name (section_of p.0)) refl)
       (within_class class (p.1 (in_a_process env.scope))));
 }
-body_is ms (Some i) None = record {
-  first = (in_block i.0).types;
+body_is ms (Some i) None at = record {
+  first = (in_section i.0).within.types;
   last = [];
   types = refl;
   members = member_pairs ms;
   initially = λ scope. i.1 scope;
   process = λ class env name. within_class class nothing_numbered;
 }
-body_is ms (Some i) (Some p) = record {
-  first = (in_block i.0).types;
-  last = (in_process p.0).types;
+body_is ms (Some i) (Some p) at = record {
+  first = (in_section i.0).within.types;
+  last = (in_section p.0).within.types;
   types = refl;
   members = member_pairs ms;
   initially = λ scope. i.1 scope;
@@ -428,7 +466,7 @@ body_at : (y : BodyWith numbered) → IsNumberedBody (roll-Body (bare_body numbe
 body_at y =
     subst (λ x. NumberedBody x (in_body (roll-Body (bare_body numbered y)))) (sym (body_rolled (bare_body numbered y)))
     (subst (NumberedBody (body_step (body_mapped (bare_body numbered y)))) (sym (body_declares (bare_body numbered y)))
-    (body_is y.members y.initially y.process))
+    (body_is y.members y.initially y.process y.end_at))
 
 -- ---- object constructors
 
@@ -453,6 +491,7 @@ passes = record {
   member = member_at;
   statement = statement_at;
   addend = addend_at;
+  argument = argument_at;
   arm = arm_at;
   block = block_at;
   body = body_at;

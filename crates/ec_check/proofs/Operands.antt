@@ -7,16 +7,19 @@ use Rattle.ec_ast.specs.declared.Expression.{Expression}
 use Rattle.ec_ast.specs.declared.Factor.{Factor, out-Factor}
 use Rattle.ec_ast.specs.declared.Link.{Link}
 use Rattle.ec_check.proofs.Equations.{addend_step_of, factor_step_of}
+use Rattle.ec_check.proofs.Equations.{argument_step_of}
 use Rattle.ec_check.proofs.Fusion.{same_part}
 use Rattle.ec_check.proofs.Links.{chain_made, same_receiver}
 use Rattle.ec_check.proofs.Steps.{aside, made_none, none_then, same_made, then_in, walking}
 use Rattle.ec_check.specs.Making.{HasMade, env_of}
 use Rattle.ec_check.specs.Parts.{AddendPart, FactorPart, Part, both_made, link_judged, nothing_made}
+use Rattle.ec_check.specs.Parts.{ArgumentPart}
 use Rattle.ec_check.specs.Places.{Env}
 use Rattle.ec_check.specs.Resolving as spec
 use Rattle.ec_check.specs.Resolving.{addend_core, all_made, chain_of, compared_in, compared_of, factor_core, head_core, head_parts}
 use Rattle.ec_check.specs.Resolving.{links_core, parts_of_chain, parts_of_links}
 use Rattle.ec_check.specs.Tree.{addend_of, factor_of, link_of, part_of}
+use Rattle.ec_check.specs.Tree.{argument_of}
 use Rattle.ec_check.specs.declared.resolver.Resolver.{Resolver}
 use Rattle.ec_core.specs.declared.Addend.{roll-Addend}
 use Rattle.ec_core.specs.declared.Compared.{Compared}
@@ -28,6 +31,7 @@ use Rattle.ec_rules.specs.Calls.{Receiver, receiver}
 use Rattle.ec_rules.specs.Parts.{value_in}
 use Rattle.ec_rules.specs.Tree as judged
 use Rattle.ec_types.specs.declared.scopes.scope.Scope.{Scope}
+use Rattle.ec_ast.specs.declared.Argument.{Argument, out-Argument}
 
 pub one_made : (old new : Resolver) (seen x : Expression) → seen ≡ x → HasMade old new ((part_of seen).made old.walk.scope) →
     HasMade old new (all_made old.walk.scope (map part_of (x ∷ [])))
@@ -87,6 +91,14 @@ module _ (old : Resolver) (walk : Walk) (mid : Resolver) (seen again x : Express
       (none_then judged_before (both_parts (walking old walk) mid new again x f other y g h k))
 
 -- ---- factors and addends
+
+pub argument_cored : (env : Env) (x : Argument) (found : Core) → found ≡ (part_of (out-Argument x).value).core env →
+    found ≡ (argument_of x).value.core env
+argument_cored env x found e = e ∙ sym (ap (λ (a : ArgumentPart). a.value.core env) (argument_step_of x))
+
+pub argument_made : (x : Argument) (old new : Resolver) → HasMade old new ((part_of (out-Argument x).value).made old.walk.scope) →
+    HasMade old new ((argument_of x).value.made old.walk.scope)
+argument_made x old new h = same_made (sym (ap (λ (a : ArgumentPart). a.value.made old.walk.scope) (argument_step_of x))) h
 
 pub factor_cored : (env : Env) (x : Factor) (found : Core) → found ≡ (part_of (out-Factor x).value).core env →
     roll-Factor (record { operator = (out-Factor x).operator; value = found; at = (out-Factor x).at.from }) ≡ factor_core env (factor_of x)

@@ -13,6 +13,7 @@ use Rattle.ec_check.specs.Operations.{as_seen, exported_of}
 use Rattle.ec_check.specs.Parts.{OperationPart, MemberPart, variable, constant, condition, operation, member_judged, operation_judged}
 use Rattle.ec_check.specs.Places.{Env}
 use Rattle.ec_check.specs.Resolving.{types_written, result_written, operation_core}
+use Rattle.ec_check.specs.Resolving.{locals_of_blocks}
 use Rattle.ec_check.specs.WellTyped.{result_of}
 use Rattle.ec_types.specs.Declarations as conform
 use Rattle.ec_types.specs.Declarations.{operations_behind, signature_with}
@@ -131,9 +132,9 @@ seen_same : (class : ℕ) (env : Env) (o : OperationPart) →
 seen_same class env o =
     ap (λ ps. seen o.name.text ps (result_of (operation_core class env o)))
     (parameters_first env.scope o.parameters (result_written env.scope o.result)
-    (o.block.locals (scope_of_operation env.scope (operation_judged o))))
+    (locals_of_blocks (scope_of_operation env.scope (operation_judged o)) o))
     ∙ ap (seen o.name.text (map (type_of env.scope.table.names) (map (λ p. p.of) o.parameters)))
-    (result_same env.scope o.parameters o.result (o.block.locals (scope_of_operation env.scope (operation_judged o))))
+    (result_same env.scope o.parameters o.result (locals_of_blocks (scope_of_operation env.scope (operation_judged o)) o))
 
 if_exported : (f : Signature → NamedOperation) (b : Bool) (x : NamedOperation) (s : Signature) (xs : List NamedOperation)
     (ss : List Signature) → x ≡ f s → xs ≡ map f ss →

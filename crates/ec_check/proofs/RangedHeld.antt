@@ -4,6 +4,7 @@ use Rattle.ec_ast.specs.declared.Link.{Link}
 use Rattle.ec_ast.specs.declared.Member.{Member}
 use Rattle.ec_ast.specs.declared.Statement.{Statement}
 use Rattle.ec_ast.specs.declared.Addend.{Addend}
+use Rattle.ec_ast.specs.declared.Argument.{Argument}
 use Rattle.ec_ast.specs.declared.Arm.{Arm}
 use Rattle.ec_ast.specs.declared.Block.{Block}
 use Rattle.ec_ast.specs.declared.Body.{Body}
@@ -14,7 +15,7 @@ use Rattle.ec_ast.specs.declared.Section.{Section}
 use Rattle.ec_check.proofs.RangedParts.{RangedPart, RangedLink, RangedMember, RangedStatement, RangedAddend, RangedArm, RangedPiece}
 use Rattle.ec_check.proofs.RangedParts.{RangedBody}
 use Rattle.ec_check.proofs.RangedParts.{RangedFactor, RangedConstructor, RangedOperation, RangedProcess}
-use Rattle.ec_check.specs.Tree.{part_of, link_of, member_of, statement_of, addend_of, arm_of, block_of, body_of, factor_of}
+use Rattle.ec_check.specs.Tree.{part_of, link_of, member_of, statement_of, addend_of, argument_of, arm_of, block_of, body_of, factor_of}
 use Rattle.ec_check.specs.Tree.{object_of, operation_of, section_of}
 use Rattle.ec_ast.proofs.Claims.{Claims}
 
@@ -34,6 +35,9 @@ IsRangedStatement x = RangedStatement (statement_of x)
 
 abbrev pub IsRangedAddend : Addend → Type 0
 IsRangedAddend x = RangedAddend (addend_of x)
+
+abbrev pub IsRangedArgument : Argument → Type 0
+IsRangedArgument x = RangedPart (argument_of x).value
 
 abbrev pub IsRangedArm : Arm → Type 0
 IsRangedArm x = RangedArm (arm_of x)
@@ -64,6 +68,7 @@ ranged = record {
   member = IsRangedMember;
   statement = IsRangedStatement;
   addend = IsRangedAddend;
+  argument = IsRangedArgument;
   arm = IsRangedArm;
   block = IsRangedBlock;
   body = IsRangedBody;

@@ -12,6 +12,7 @@ use Rattle.ec_check.proofs.FoundPlaces.{Fits, GlobalsAre, first_below, number_be
 use Rattle.ec_check.proofs.NumbersRolled.{statement_has, block_rolled}
 use Rattle.ec_check.proofs.RangedParts.{Ready, Ranged, RangedPiece, RangedMember, RangedHolder, RangedProcess, ClassesWithin}
 use Rattle.ec_check.proofs.RangedParts.{first_ready, second_ready, ready_within, each_joined, any_of}
+use Rattle.ec_check.proofs.RangedParts.{RangedOperation}
 use Rattle.ec_check.specs.Numbers.{Kept, Whole, Limits, InRange, IsOperation, limits_of, joined, in_expression, in_statement, in_block}
 use Rattle.ec_check.specs.Parts.{Piece, SectionPart, OperationPart, MemberPart, variable, constant, condition, operation, Holder}
 use Rattle.ec_check.specs.Parts.{member_judged, operation_judged, section_judged, holder_judged}
@@ -21,6 +22,7 @@ use Rattle.ec_check.specs.Resolving.{field_stored}
 use Rattle.ec_check.specs.Resolving.{initially_core, initial_block, initial_operation, locals_of_block, process_operation}
 use Rattle.ec_check.specs.Resolving.{process_made, initially_made}
 use Rattle.ec_check.specs.Resolving.{env_of_body, env_in, class_core, holder_made, captures_of}
+use Rattle.ec_check.specs.Resolving.{behind_block}
 use Rattle.ec_core.specs.declared.Block.{Block, out-Block, roll-out-Block}
 use Rattle.ec_core.specs.declared.Class.{Class}
 use Rattle.ec_core.specs.declared.Expression.{Expression}
@@ -32,14 +34,21 @@ use Rattle.ec_types.specs.Names.{first_named}
 use Rattle.ec_rules.specs.Captures.{Use, uses_outside}
 use Rattle.ec_rules.specs.Judging.{member_finished, members_finished, finished_if, process_finished, body_finished}
 use Rattle.ec_rules.specs.Judging.{faults_in_holder, uses_within}
+use Rattle.ec_rules.specs.Judging.{blocks_finished, clause_finished}
 use Rattle.ec_rules.specs.Lists.{each}
 use Rattle.ec_rules.specs.Members as rules
 use Rattle.ec_rules.specs.Members.{parameter_entries, result_entries, scope_of, scope_of_operation, object_with}
 use Rattle.ec_rules.specs.Parts as judged
 use Rattle.ec_types.specs.declared.scopes.scope.Scope.{Scope}
 use Rattle.ec_types.specs.Scopes.{innermost, in_a_process, outside, with_locals, at_process}
+use Rattle.ec_check.proofs.RangedStatements.{ready_further}
 
 -- ---- what is used in a body
+
+clause_used : (scope : Scope) (b : Option Piece) → Where RangedPiece b →
+    UsesHeld scope (clause_finished scope (option_map (λ p. p.piece) b)).uses
+clause_used scope None h = tt
+clause_used scope (Some b) h = h.uses scope
 
 member_used : (scope : Scope) (is_monitored : Bool) (m : MemberPart) → RangedMember m →
     UsesHeld scope (member_finished scope is_monitored (member_judged m)).uses
@@ -48,8 +57,11 @@ member_used scope is_monitored (variable is_attached name of (Some x)) h = h.use
 member_used scope is_monitored (constant is_attached name of x) h = h.uses true scope
 member_used scope is_monitored (condition name) h = tt
 member_used scope is_monitored (operation o) h =
+    let inner = scope_of_operation scope (operation_judged o) in
     held_changed (with_locals (parameter_entries scope o.parameters ++ result_entries scope o.result)) scope
-    (o.block.piece (scope_of_operation scope (operation_judged o))).uses (h.uses (scope_of_operation scope (operation_judged o)))
+    (blocks_finished inner (operation_judged o)).uses
+    (held_both inner (o.block.piece inner).uses (clause_finished inner (option_map (λ p. p.piece) o.failure)).uses (h.0.uses inner)
+    (clause_used inner o.failure h.1))
 
 members_used : (scope : Scope) (is_monitored : Bool) (ms : List MemberPart) → Every RangedMember ms →
     UsesHeld scope (members_finished scope is_monitored (map member_judged ms)).uses
@@ -158,28 +170,47 @@ pub is_operation : (whole : Whole) (c : Class) (o : Operation) → of_class whol
 is_operation whole c o there number h =
     any_of _ whole.classes c there (number, all_of (InRange (limits_of whole c o)) (in_block o.block) h)
 
+-- what is made within a failure clause
+clause_ranged : (limits : Limits) (env : Env) (b : Option Piece) → Where RangedPiece b →
+    Ready limits env (clause_finished env.scope (option_map (λ p. p.piece) b)).uses
+    (clause_finished env.scope (option_map (λ p. p.piece) b)).faults (initially_made env.scope b).classes →
+    env.count + length (locals_of_block env.scope b) ≤ limits.variables →
+    Every (IsOperation limits.whole) (initially_made env.scope b).operations
+clause_ranged limits env None h r l = tt
+clause_ranged limits env (Some b) h r l = (h.ranged limits env r l).operations
+
 operation_ranged : (whole : Whole) (c : Class) (env : Env) (is_monitored : Bool) (o : OperationPart) → Contains whole.classes c →
-    BodyFits whole c env → RangedPiece o.block → (limits : Limits) → limits.whole ≡ whole →
+    BodyFits whole c env → RangedOperation o → (limits : Limits) → limits.whole ≡ whole →
     Ready limits env (member_finished env.scope is_monitored (judged.operation (operation_judged o))).uses
     (member_finished env.scope is_monitored (judged.operation (operation_judged o))).faults
     (member_made c.number env (operation o)).classes →
     Every (IsOperation whole) (member_made c.number env (operation o)).operations
 operation_ranged whole c env is_monitored o there f h limits same r =
-    let e : length (heading_types env.scope o.parameters o.result ++ o.block.locals (scope_of_operation env.scope (operation_judged o)))
-    ≡ length (heading_types env.scope o.parameters o.result)
-    + length (o.block.locals (scope_of_operation env.scope (operation_judged o))) =
-    length-append (heading_types env.scope o.parameters o.result) (o.block.locals (scope_of_operation env.scope (operation_judged o))) in
-    let done : Ranged (limits_of whole c (operation_core c.number env o)) (in_block (o.block.core (env_of_operation env o)))
-    (o.block.made (scope_of_operation env.scope (operation_judged o))).operations =
-    h.ranged (limits_of whole c (operation_core c.number env o)) (env_of_operation env o)
-    (record {
-      fits = fits_in_operation whole c env o (operation_core c.number env o) f (omega arith);
+    let inner = scope_of_operation env.scope (operation_judged o) in
+    let start = env_of_operation env o in
+    let types = heading_types env.scope o.parameters o.result in
+    let locals = o.block.locals inner in
+    let more = locals_of_block inner o.failure in
+    let made = operation_core c.number env o in
+    let block = o.block.piece inner in
+    let clause = clause_finished inner (option_map (λ p. p.piece) o.failure) in
+    let e : length (types ++ (locals ++ more)) ≡ length types + length (locals ++ more) = length-append types (locals ++ more) in
+    let g : length (locals ++ more) ≡ length locals + length more = length-append locals more in
+    let ready : Ready (limits_of whole c made) start (block.uses ++ clause.uses) (block.faults ++ clause.faults)
+    ((o.block.made inner).classes ++ (initially_made inner o.failure).classes) = record {
+      fits = fits_in_operation whole c env o made f (omega arith);
       reach = r.reach;
       faultless = none_left _ _ (none_left _ _ r.faultless);
       within = subst (λ w. ClassesWithin w (member_made c.number env (operation o)).classes) same r.within;
-    })
-    (omega arith) in
-    (is_operation whole c (operation_core c.number env o) there refl done.numbers, done.operations)
+    } in
+    let done : Ranged (limits_of whole c made) (in_block (o.block.core start)) (o.block.made inner).operations =
+    h.0.ranged (limits_of whole c made) start (first_ready _ _ _ _ _ _ ready) (omega arith) in
+    let later : Every (IsOperation whole) (initially_made inner o.failure).operations =
+    clause_ranged (limits_of whole c made) (behind_block start o.block) o.failure h.1
+    (ready_further (length locals) (second_ready _ _ _ _ _ _ ready)) (omega arith) in (
+      is_operation whole c made there refl done.numbers,
+      every_joined (IsOperation whole) (o.block.made inner).operations (initially_made inner o.failure).operations done.operations later,
+    )
 
 member_operations : (whole : Whole) (c : Class) (env : Env) (is_monitored : Bool) (m : MemberPart) → Contains whole.classes c →
     BodyFits whole c env → RangedMember m → (o : Operation) →

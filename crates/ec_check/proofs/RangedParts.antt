@@ -111,7 +111,7 @@ abbrev pub RangedProcess : SectionPart → Type 0
 RangedProcess p = RangedPiece p.block
 
 abbrev pub RangedOperation : OperationPart → Type 0
-RangedOperation o = RangedPiece o.block
+RangedOperation o = RangedPiece o.block × Where RangedPiece o.failure
 
 abbrev pub RangedMember : MemberPart → Type 0
 RangedMember (variable is_attached name of value) = Where RangedPart value

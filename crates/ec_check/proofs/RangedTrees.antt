@@ -15,6 +15,7 @@ use Rattle.ec_ast.specs.declared.Operation.{roll-Operation}
 use Rattle.ec_ast.specs.declared.Section.{roll-Section}
 use Rattle.ec_ast.specs.declared.Expression.TheOpen.{Expression-F, Link-F, Member-F, Statement-F}
 use Rattle.ec_check.proofs.Every.{Every}
+use Rattle.ec_check.proofs.Every.{each_within}
 use Rattle.ec_check.proofs.RangedExpressions.{expression_ranged, RangedParts}
 use Rattle.ec_check.proofs.RangedParts.{RangedPart, RangedLink, RangedMember, RangedStatement, RangedAddend, RangedArm, RangedPiece}
 use Rattle.ec_check.proofs.RangedParts.{RangedBody}
@@ -25,16 +26,22 @@ use Rattle.ec_check.proofs.Rolled.{expression_mapped, link_mapped, member_mapped
 use Rattle.ec_check.proofs.Rolled.{part_rolled, link_rolled, member_rolled, statement_rolled, addend_rolled, arm_rolled}
 use Rattle.ec_check.proofs.Rolled.{block_rolled, body_rolled}
 use Rattle.ec_check.proofs.Rolled.{factor_rolled, object_rolled, operation_rolled, section_rolled, block_mapped}
+use Rattle.ec_check.proofs.Rolled.{argument_rolled, operation_mapped}
 use Rattle.ec_check.specs.Tree.{link_step, member_step, body_step}
 use Rattle.ec_check.specs.Tree.{part_of, link_of, member_of, statement_of, addend_of, arm_of, factor_of}
+use Rattle.ec_check.specs.Tree.{operation_step, argument_of}
 use Rattle.ec_check.proofs.RangedHeld.{IsRangedPart, IsRangedLink, IsRangedMember, IsRangedStatement, IsRangedAddend, IsRangedArm}
 use Rattle.ec_check.proofs.RangedHeld.{IsRangedBlock, IsRangedBody, IsRangedFactor, IsRangedObject, IsRangedOperation, IsRangedProcess}
 use Rattle.ec_check.proofs.RangedHeld.{ranged}
+use Rattle.ec_check.proofs.RangedHeld.{IsRangedArgument}
 use Rattle.ec_ast.proofs.Claims.{Passes, Held, ExpressionWith, LinkWith, MemberWith, StatementWith, AddendWith, ArmWith}
 use Rattle.ec_ast.proofs.Claims.{BlockWith, BodyWith, FactorWith, ObjectWith, OperationWith, SectionWith, bare_expression}
 use Rattle.ec_ast.proofs.Claims.{bare_link, bare_member, bare_statement, bare_addend, bare_arm, bare_block, bare_body, bare_factor}
 use Rattle.ec_ast.proofs.Claims.{bare_object, bare_operation, bare_section, expression_holds, statement_holds, block_holds}
 use Rattle.ec_ast.proofs.Claims.{body_holds}
+use Rattle.ec_ast.proofs.Claims.{ArgumentWith, bare_argument}
+use Rattle.ec_ast.specs.declared.Argument.{roll-Argument}
+use Rattle.ec_ast.specs.declared.Span.{Span}
 
 -- ---- lists of parts
 
@@ -111,11 +118,14 @@ block_at y =
 -- ---- links, factors and addends
 
 link_is : (y : LinkWith ranged) → RangedLink (link_step (link_mapped (bare_link ranged y)))
-link_is (Link-F.Call name xs) = each_held part_of RangedPart xs
+link_is (Link-F.Call name xs) = each_within argument_of (λ a. a.value) RangedPart xs
 link_is (Link-F.Index x at) = x.1
 
 link_at : (y : LinkWith ranged) → IsRangedLink (roll-Link (bare_link ranged y))
 link_at y = subst RangedLink (sym (link_rolled (bare_link ranged y))) (link_is y)
+
+argument_at : (y : ArgumentWith ranged) → IsRangedArgument (roll-Argument (bare_argument ranged y))
+argument_at y = subst (λ a. RangedPart a.value) (sym (argument_rolled (bare_argument ranged y))) y.value.1
 
 factor_at : (y : FactorWith ranged) → IsRangedFactor (roll-Factor (bare_factor ranged y))
 factor_at y = subst RangedFactor (sym (factor_rolled (bare_factor ranged y))) y.value.1
@@ -135,24 +145,32 @@ member_is (Member-F.Operation o) = o.1
 member_at : (y : MemberWith ranged) → IsRangedMember (roll-Member (bare_member ranged y))
 member_at y = subst RangedMember (sym (member_rolled (bare_member ranged y))) (member_is y)
 
+abbrev with_failure : OperationWith ranged → Option (Held IsRangedProcess) → OperationWith ranged
+with_failure y failure = record y { failure = failure }
+
+operation_is : (y : OperationWith ranged) (failure : Option (Held IsRangedProcess)) →
+    RangedOperation (operation_step (operation_mapped (bare_operation ranged (with_failure y failure))))
+operation_is y None = (y.block.1, tt)
+operation_is y (Some c) = (y.block.1, c.1)
+
 operation_at : (y : OperationWith ranged) → IsRangedOperation (roll-Operation (bare_operation ranged y))
-operation_at y = subst RangedOperation (sym (operation_rolled (bare_operation ranged y))) y.block.1
+operation_at y = subst RangedOperation (sym (operation_rolled (bare_operation ranged y))) (operation_is y y.failure)
 
 process_at : (y : SectionWith ranged) → IsRangedProcess (roll-Section (bare_section ranged y))
 process_at y = subst RangedProcess (sym (section_rolled (bare_section ranged y))) y.block.1
 
-abbrev body_layer : List (Held IsRangedMember) → Option (Held IsRangedBlock) → Option (Held IsRangedProcess) → BodyWith ranged
-body_layer ms i p = record { members = ms; initially = i; process = p }
+abbrev body_layer : List (Held IsRangedMember) → Option (Held IsRangedProcess) → Option (Held IsRangedProcess) → Span → BodyWith ranged
+body_layer ms i p at = record { members = ms; initially = i; process = p; end_at = at }
 
-body_is : (ms : List (Held IsRangedMember)) (i : Option (Held IsRangedBlock)) (p : Option (Held IsRangedProcess)) →
-    RangedBody (body_step (body_mapped (bare_body ranged (body_layer ms i p))))
-body_is ms None None = record { members = each_held member_of RangedMember ms; initially = tt; process = tt }
-body_is ms None (Some p) = record { members = each_held member_of RangedMember ms; initially = tt; process = p.1 }
-body_is ms (Some i) None = record { members = each_held member_of RangedMember ms; initially = i.1; process = tt }
-body_is ms (Some i) (Some p) = record { members = each_held member_of RangedMember ms; initially = i.1; process = p.1 }
+body_is : (ms : List (Held IsRangedMember)) (i p : Option (Held IsRangedProcess)) (at : Span) →
+    RangedBody (body_step (body_mapped (bare_body ranged (body_layer ms i p at))))
+body_is ms None None at = record { members = each_held member_of RangedMember ms; initially = tt; process = tt }
+body_is ms None (Some p) at = record { members = each_held member_of RangedMember ms; initially = tt; process = p.1 }
+body_is ms (Some i) None at = record { members = each_held member_of RangedMember ms; initially = i.1; process = tt }
+body_is ms (Some i) (Some p) at = record { members = each_held member_of RangedMember ms; initially = i.1; process = p.1 }
 
 body_at : (y : BodyWith ranged) → IsRangedBody (roll-Body (bare_body ranged y))
-body_at y = subst RangedBody (sym (body_rolled (bare_body ranged y))) (body_is y.members y.initially y.process)
+body_at y = subst RangedBody (sym (body_rolled (bare_body ranged y))) (body_is y.members y.initially y.process y.end_at)
 
 object_at : (y : ObjectWith ranged) → IsRangedObject (roll-ObjectConstructor (bare_object ranged y))
 object_at y = subst RangedConstructor (sym (object_rolled (bare_object ranged y))) y.body.1
@@ -166,6 +184,7 @@ passes = record {
   member = member_at;
   statement = statement_at;
   addend = addend_at;
+  argument = argument_at;
   arm = arm_at;
   block = block_at;
   body = body_at;

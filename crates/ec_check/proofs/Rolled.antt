@@ -5,6 +5,7 @@ use Rattle.ec_ast.specs.declared.Link.{roll-Link}
 use Rattle.ec_ast.specs.declared.Member.{roll-Member}
 use Rattle.ec_ast.specs.declared.Statement.{roll-Statement}
 use Rattle.ec_ast.specs.declared.Addend.{roll-Addend}
+use Rattle.ec_ast.specs.declared.Argument.{roll-Argument}
 use Rattle.ec_ast.specs.declared.Arm.{roll-Arm}
 use Rattle.ec_ast.specs.declared.Block.{roll-Block}
 use Rattle.ec_ast.specs.declared.Body.{roll-Body}
@@ -12,19 +13,19 @@ use Rattle.ec_ast.specs.declared.Factor.{roll-Factor}
 use Rattle.ec_ast.specs.declared.ObjectConstructor.{roll-ObjectConstructor}
 use Rattle.ec_ast.specs.declared.Operation.{roll-Operation}
 use Rattle.ec_ast.specs.declared.Section.{roll-Section}
-use Rattle.ec_check.specs.Parts.{AnExpression, ALink, AMember, AStatement, AnAddend, AnArm, ABlock, ABody, AFactor, AnObject}
+use Rattle.ec_check.specs.Parts.{AnExpression, ALink, AMember, AStatement, AnAddend, AnArgument, AnArm, ABlock, ABody, AFactor, AnObject}
 use Rattle.ec_check.specs.Parts.{AnOperation, ASection}
-use Rattle.ec_check.specs.Tree.{expression_step, link_step, member_step, statement_step, addend_step, arm_step, block_step}
+use Rattle.ec_check.specs.Tree.{expression_step, link_step, member_step, statement_step, addend_step, argument_step, arm_step, block_step}
 use Rattle.ec_check.specs.Tree.{body_step, factor_step, object_step, operation_step, section_step, steps, parts}
-use Rattle.ec_check.specs.Tree.{part_of, link_of, member_of, statement_of, addend_of, arm_of, block_of, body_of, factor_of}
+use Rattle.ec_check.specs.Tree.{part_of, link_of, member_of, statement_of, addend_of, argument_of, arm_of, block_of, body_of, factor_of}
 use Rattle.ec_check.specs.Tree.{object_of, operation_of, section_of}
-pub use Rattle.ec_ast.specs.Kinds.{ExpressionLayer, LinkLayer, MemberLayer, StatementLayer, AddendLayer, ArmLayer, BlockLayer}
+pub use Rattle.ec_ast.specs.Kinds.{ExpressionLayer, LinkLayer, MemberLayer, StatementLayer, AddendLayer, ArgumentLayer, ArmLayer, BlockLayer}
 pub use Rattle.ec_ast.specs.Kinds.{BodyLayer, FactorLayer, ObjectLayer, OperationLayer, SectionLayer}
 use Rattle.ec_ast.specs.Layers as layers
 use Rattle.ec_ast.proofs.Rolled.{Rolled, folds_are_rolled}
 
 pub rolled : Rolled steps parts
-unfolding part_of link_of member_of statement_of addend_of arm_of block_of body_of factor_of object_of operation_of section_of
+unfolding part_of link_of member_of statement_of addend_of argument_of arm_of block_of body_of factor_of object_of operation_of section_of
 rolled = folds_are_rolled steps
 
 -- ---- a layer with its parts made
@@ -43,6 +44,9 @@ statement_mapped = layers.statement_mapped parts
 
 abbrev pub addend_mapped : AddendLayer → AnAddend
 addend_mapped = layers.addend_mapped parts
+
+abbrev pub argument_mapped : ArgumentLayer → AnArgument
+argument_mapped = layers.argument_mapped parts
 
 abbrev pub arm_mapped : ArmLayer → AnArm
 arm_mapped = layers.arm_mapped parts
@@ -82,6 +86,9 @@ statement_rolled = rolled.statement
 pub addend_rolled : (x : AddendLayer) → addend_of (roll-Addend x) ≡ addend_step (addend_mapped x)
 addend_rolled = rolled.addend
 
+pub argument_rolled : (x : ArgumentLayer) → argument_of (roll-Argument x) ≡ argument_step (argument_mapped x)
+argument_rolled = rolled.argument
+
 pub arm_rolled : (x : ArmLayer) → arm_of (roll-Arm x) ≡ arm_step (arm_mapped x)
 arm_rolled = rolled.arm
 
@@ -101,4 +108,4 @@ pub operation_rolled : (x : OperationLayer) → operation_of (roll-Operation x) 
 operation_rolled = rolled.operation
 
 pub section_rolled : (x : SectionLayer) → section_of (roll-Section x) ≡ section_step (section_mapped x)
-section_rolled = rolled.process
+section_rolled = rolled.section

@@ -12,6 +12,7 @@ use Rattle.ec_check.specs.Parts.{member_judged, operation_judged, section_judged
 use Rattle.ec_check.specs.Typing.{block_within, process_within, member_within, holder_within}
 use Rattle.ec_types.specs.Names.{Text, has_name}
 use Rattle.ec_rules.specs.Judging.{member_finished, members_finished, finished_if, process_finished, faults_in_holder}
+use Rattle.ec_rules.specs.Judging.{clause_finished}
 use Rattle.ec_rules.specs.Lists.{each, each_of}
 use Rattle.ec_rules.specs.Members.{parameter_entries, result_entries, fields_in, operations_in, field_names, fields_of}
 use Rattle.ec_rules.specs.Members.{scope_of_names, scope_of}
@@ -57,6 +58,11 @@ members_are_faultless scope is_monitored [] e = tt
 members_are_faultless scope is_monitored (m ∷ ms) e =
     (none_left _ _ e, members_are_faultless scope is_monitored ms (none_right _ _ e))
 
+clause_types : (scope : Scope) (b : Option Piece) → SoundScope scope → Where SoundPiece b →
+    (clause_finished scope (option_map (λ p. p.piece) b)).faults ≡ [] → Every HasType (block_within scope b)
+clause_types scope None s h e = tt
+clause_types scope (Some b) s h e = h scope s e
+
 member_types : (scope : Scope) (is_monitored : Bool) (m : MemberPart) → SoundScope scope → SoundMember m →
     Faultless scope is_monitored (member_judged m) → Every HasType (member_within scope m)
 member_types scope is_monitored (variable is_attached name of None) s h e = tt
@@ -64,8 +70,11 @@ member_types scope is_monitored (variable is_attached name of (Some value)) s h 
 member_types scope is_monitored (constant is_attached name of value) s h e = part_types scope value s h (none_left _ _ e)
 member_types scope is_monitored (condition name) s h e = tt
 member_types scope is_monitored (operation o) s h e =
-    h (scope_of_operation scope (operation_judged o))
-    (sound_in_operation scope (operation_judged o) s (none_left _ _ (none_right _ _ e))) (none_left _ _ (none_left _ _ e))
+    let inner = scope_of_operation scope (operation_judged o) in
+    let sound : SoundScope inner = sound_in_operation scope (operation_judged o) s (none_left _ _ (none_right _ _ e)) in
+    every_joined HasType (o.block.within inner) (block_within inner o.failure)
+    (h.0 inner sound (none_left _ _ (none_left _ _ (none_left _ _ e))))
+    (clause_types inner o.failure sound h.1 (none_right _ _ (none_left _ _ (none_left _ _ e))))
 
 members_types : (scope : Scope) (is_monitored : Bool) (ms : List MemberPart) → SoundScope scope → Every SoundMember ms →
     Every (Faultless scope is_monitored) (map member_judged ms) → Every HasType (each (member_within scope) ms)

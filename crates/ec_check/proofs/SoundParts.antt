@@ -52,7 +52,7 @@ abbrev pub SoundProcess : SectionPart → Type 0
 SoundProcess p = SoundPiece p.block
 
 abbrev pub SoundOperation : OperationPart → Type 0
-SoundOperation o = SoundPiece o.block
+SoundOperation o = SoundPiece o.block × Where SoundPiece o.failure
 
 abbrev pub SoundMember : MemberPart → Type 0
 SoundMember (variable is_attached name of value) = Where SoundPart value

@@ -4,6 +4,7 @@ use Rattle.ec_ast.specs.declared.Link.{Link}
 use Rattle.ec_ast.specs.declared.Member.{Member}
 use Rattle.ec_ast.specs.declared.Statement.{Statement}
 use Rattle.ec_ast.specs.declared.Addend.{Addend}
+use Rattle.ec_ast.specs.declared.Argument.{Argument}
 use Rattle.ec_ast.specs.declared.Arm.{Arm}
 use Rattle.ec_ast.specs.declared.Block.{Block}
 use Rattle.ec_ast.specs.declared.Body.{Body}
@@ -13,7 +14,7 @@ use Rattle.ec_ast.specs.declared.Operation.{Operation}
 use Rattle.ec_ast.specs.declared.Section.{Section}
 use Rattle.ec_check.proofs.WellParts.{WellPart, WellLink, WellMember, WellStatement, WellAddend, WellArm, WellPiece, WellBody}
 use Rattle.ec_check.proofs.WellParts.{WellFactor, WellConstructor, WellOperation, WellProcess}
-use Rattle.ec_check.specs.Tree.{part_of, link_of, member_of, statement_of, addend_of, arm_of, block_of, body_of, factor_of}
+use Rattle.ec_check.specs.Tree.{part_of, link_of, member_of, statement_of, addend_of, argument_of, arm_of, block_of, body_of, factor_of}
 use Rattle.ec_check.specs.Tree.{object_of, operation_of, section_of}
 use Rattle.ec_ast.proofs.Claims.{Claims}
 
@@ -33,6 +34,9 @@ IsWellStatement x = WellStatement (statement_of x)
 
 abbrev pub IsWellAddend : Addend → Type 0
 IsWellAddend x = WellAddend (addend_of x)
+
+abbrev pub IsWellArgument : Argument → Type 0
+IsWellArgument x = WellPart (argument_of x).value
 
 abbrev pub IsWellArm : Arm → Type 0
 IsWellArm x = WellArm (arm_of x)
@@ -63,6 +67,7 @@ well = record {
   member = IsWellMember;
   statement = IsWellStatement;
   addend = IsWellAddend;
+  argument = IsWellArgument;
   arm = IsWellArm;
   block = IsWellBlock;
   body = IsWellBody;

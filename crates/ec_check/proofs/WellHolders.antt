@@ -13,6 +13,7 @@ use Rattle.ec_check.proofs.SuitingBodies.{BodySuits, body_suits, suits_at_start,
 use Rattle.ec_check.proofs.SuitingBodies.{from_last, from_all}
 use Rattle.ec_check.proofs.TypedRolled.{block_rolled}
 use Rattle.ec_check.proofs.WellParts.{Ready, WellMember, WellPiece, WellProcess, WellHolder, GlobalsSuit, AreWell, AreFrom}
+use Rattle.ec_check.proofs.WellParts.{WellOperation}
 use Rattle.ec_check.proofs.WellReady.{first_reach, second_reach, first_ready, second_ready, ready_within}
 use Rattle.ec_check.specs.Parts.{Piece, SectionPart, OperationPart, MemberPart, variable, constant, condition, operation, Holder, Made}
 use Rattle.ec_check.specs.Parts.{member_judged, operation_judged, section_judged, holder_judged}
@@ -21,6 +22,7 @@ use Rattle.ec_check.specs.Resolving.{env_of_operation, operation_core, heading_t
 use Rattle.ec_check.specs.Resolving.{initially_core}
 use Rattle.ec_check.specs.Resolving.{initial_block, initial_operation, locals_of_block, process_operation, process_made, initially_made}
 use Rattle.ec_check.specs.Resolving.{env_of_body, env_in, class_core, holder_made, captures_of}
+use Rattle.ec_check.specs.Resolving.{blocks_made, behind_block}
 use Rattle.ec_check.specs.WellTyped.{Site, site_in, is_well_block, is_well_statement}
 use Rattle.ec_check.specs.WellTyped.{all_well, IsWellOperation}
 use Rattle.ec_types.specs.Table.{Table}
@@ -33,6 +35,7 @@ use Rattle.ec_rules.specs.Doubled.{doubled_in_body}
 use Rattle.ec_rules.specs.EndNames.{end_of_holder}
 use Rattle.ec_rules.specs.Judging.{member_finished, members_finished, finished_if, process_finished, body_finished}
 use Rattle.ec_rules.specs.Judging.{heading_faults, faults_in_holder, type_faults, uses_within}
+use Rattle.ec_rules.specs.Judging.{clause_finished}
 use Rattle.ec_rules.specs.Limits.{many_fields, many_parameters}
 use Rattle.ec_rules.specs.Lists.{each}
 use Rattle.ec_rules.specs.Members.{scope_of, scope_of_operation}
@@ -40,6 +43,7 @@ use Rattle.ec_rules.specs.Names.{unknown_in_parameters}
 use Rattle.ec_rules.specs.Parts as judged
 use Rattle.ec_types.specs.declared.scopes.scope.Scope.{Scope}
 use Rattle.ec_types.specs.Scopes.{in_a_process}
+use Rattle.ec_check.proofs.WellStatements.{from_left, from_right, ready_further}
 
 -- ---- blocks
 
@@ -56,32 +60,48 @@ module _ (table : Table) (core : Core) (c : Class) (there : Contains core.classe
   abbrev AllWell : List Operation → Type 0
   AllWell os = Every (IsWellOperation table core) os
 
-  operation_well : (env : Env) (is_monitored : Bool) (o : OperationPart) → BodySuits table core c env → WellPiece o.block →
+  -- what is made within a failure clause
+  clause_well : (env : Env) (b : Option Piece) → Where WellPiece b → (made : Operation) →
+      Ready (site_in table core c made) env (clause_finished env.scope (option_map (λ p. p.piece) b)).uses
+      (clause_finished env.scope (option_map (λ p. p.piece) b)).faults (initially_made env.scope b) →
+      AreFrom made.variables env.count (locals_of_block env.scope b) → AllWell (initially_made env.scope b).operations
+  clause_well env None h made r v = tt
+  clause_well env (Some b) h made r v = (h.well (site_in table core c made) env r refl v).1
+
+  operation_well : (env : Env) (is_monitored : Bool) (o : OperationPart) → BodySuits table core c env → WellOperation o →
       (made : Operation) →
       Ready (site_in table core c made) env (member_finished env.scope is_monitored (judged.operation (operation_judged o))).uses
       (member_finished env.scope is_monitored (judged.operation (operation_judged o))).faults
       (member_made c.number env (operation o)) →
       AllWell (member_made c.number env (operation o)).operations
   operation_well env is_monitored o f h made r =
-      let done : (is_well_block (site_in table core c (operation_core c.number env o)) (o.block.core (env_of_operation env o)) ≡ true)
-      × AllWell (o.block.made (scope_of_operation env.scope (operation_judged o))).operations =
-      h.well (site_in table core c (operation_core c.number env o)) (env_of_operation env o)
-      (record {
-        suits =
-            suits_in_operation table core c env o (operation_core c.number env o) f
-            (from_first (heading_types env.scope o.parameters o.result)
-            (o.block.locals (scope_of_operation env.scope (operation_judged o))));
+      let inner = scope_of_operation env.scope (operation_judged o) in
+      let start = env_of_operation env o in
+      let types = heading_types env.scope o.parameters o.result in
+      let locals = o.block.locals inner in
+      let more = locals_of_block inner o.failure in
+      let own = operation_core c.number env o in
+      let site = site_in table core c own in
+      let block = o.block.piece inner in
+      let clause = clause_finished inner (option_map (λ p. p.piece) o.failure) in
+      let ready : Ready site start (block.uses ++ clause.uses) (block.faults ++ clause.faults) (blocks_made inner o) = record {
+        suits = suits_in_operation table core c env o own f (from_first types (locals ++ more));
         sound = sound_in_operation env.scope (operation_judged o) r.sound (none_left _ _ (none_right _ _ r.faultless));
         reach = r.reach;
         faultless = none_left _ _ (none_left _ _ r.faultless);
         classes = r.classes;
         operations = r.operations.1;
-      })
-      refl
-      (from_last (heading_types env.scope o.parameters o.result)
-      (o.block.locals (scope_of_operation env.scope (operation_judged o))) (0 + length (heading_types env.scope o.parameters o.result))
-      (omega arith)) in
-      (is_operation table core c (operation_core c.number env o) there refl done.0, done.1)
+      } in
+      let all : AreFrom own.variables (0 + length types) (locals ++ more) =
+      from_last types (locals ++ more) (0 + length types) (omega arith) in
+      let done : (is_well_block site (o.block.core start) ≡ true) × AllWell (o.block.made inner).operations =
+      h.0.well site start (first_ready _ _ _ _ _ _ ready) refl (from_left locals more own.variables (0 + length types) all) in
+      let later : AllWell (initially_made inner o.failure).operations =
+      clause_well (behind_block start o.block) o.failure h.1 own (ready_further (length locals) (second_ready _ _ _ _ _ _ ready))
+      (from_right locals more own.variables (0 + length types) ((0 + length types) + length locals) refl all) in (
+        is_operation table core c own there refl done.0,
+        every_joined (IsWellOperation table core) (o.block.made inner).operations (initially_made inner o.failure).operations done.1 later,
+      )
 
   member_operations : (env : Env) (is_monitored : Bool) (m : MemberPart) → BodySuits table core c env → WellMember m → (made : Operation) →
       Ready (site_in table core c made) env (member_finished env.scope is_monitored (member_judged m)).uses

@@ -204,7 +204,7 @@ abbrev pub WellProcess : SectionPart → Type 0
 WellProcess p = WellPiece p.block
 
 abbrev pub WellOperation : OperationPart → Type 0
-WellOperation o = WellPiece o.block
+WellOperation o = WellPiece o.block × Where WellPiece o.failure
 
 abbrev pub WellMember : MemberPart → Type 0
 WellMember (variable is_attached name of value) = Where WellPart value

@@ -97,11 +97,11 @@ declares_all (Statement-F.Wait name at) scope = tt
 declares_all (Statement-F.Signal name at) scope = tt
 
 -- the variables of two things, one behind the other
-from_left : (ts us : List StaticType) (variables : List StaticType) (at : ℕ) → AreFrom variables at (ts ++ us) → AreFrom variables at ts
+pub from_left : (ts us : List StaticType) (variables : List StaticType) (at : ℕ) → AreFrom variables at (ts ++ us) → AreFrom variables at ts
 from_left [] us variables at h = tt
 from_left (t ∷ ts) us variables at h = (h.0, from_left ts us variables (suc at) h.1)
 
-from_right : (ts us : List StaticType) (variables : List StaticType) (at n : ℕ) → at + length ts ≡ n →
+pub from_right : (ts us : List StaticType) (variables : List StaticType) (at n : ℕ) → at + length ts ≡ n →
     AreFrom variables at (ts ++ us) → AreFrom variables n us
 from_right [] us variables at n e h = let same : at ≡ n = omega arith in subst (λ k. AreFrom variables k us) same h
 from_right (t ∷ ts) us variables at n e h = from_right ts us variables (suc at) n (omega arith) h.1
@@ -162,7 +162,7 @@ declared_well site n of v is h =
 
 -- ---- arms
 
-ready_further : {site : Site} {env : Env} {us : List Use} {fs : List StaticFault} (more : ℕ) {m : Made} → Ready site env us fs m →
+pub ready_further : {site : Site} {env : Env} {us : List Use} {fs : List StaticFault} (more : ℕ) {m : Made} → Ready site env us fs m →
     Ready site (further more env) us fs m
 ready_further {site} {env} more r = record {
   suits = suits_further site more env r.suits;

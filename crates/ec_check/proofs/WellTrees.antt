@@ -14,6 +14,7 @@ use Rattle.ec_ast.specs.declared.Operation.{roll-Operation}
 use Rattle.ec_ast.specs.declared.Section.{roll-Section}
 use Rattle.ec_ast.specs.declared.Expression.TheOpen.{Expression-F, Link-F, Member-F, Statement-F}
 use Rattle.ec_check.proofs.Every.{Every}
+use Rattle.ec_check.proofs.Every.{each_within}
 use Rattle.ec_check.proofs.WellExpressions.{expression_well, WellParts}
 use Rattle.ec_check.proofs.WellParts.{WellPart, WellLink, WellMember, WellStatement, WellAddend, WellArm, WellPiece, WellBody}
 use Rattle.ec_check.proofs.WellParts.{WellFactor, WellConstructor, WellOperation, WellProcess}
@@ -27,14 +28,20 @@ use Rattle.ec_check.proofs.Rolled.{expression_mapped, link_mapped, member_mapped
 use Rattle.ec_check.proofs.Rolled.{part_rolled, link_rolled, member_rolled, statement_rolled, addend_rolled, arm_rolled}
 use Rattle.ec_check.proofs.Rolled.{block_rolled, body_rolled}
 use Rattle.ec_check.proofs.Rolled.{factor_rolled, object_rolled, operation_rolled, section_rolled, block_mapped}
+use Rattle.ec_check.proofs.Rolled.{argument_rolled, operation_mapped}
 use Rattle.ec_check.specs.Tree.{link_step, member_step, body_step}
 use Rattle.ec_check.specs.Tree.{part_of, link_of, member_of, statement_of, addend_of, arm_of, factor_of}
+use Rattle.ec_check.specs.Tree.{operation_step, argument_of}
 use Rattle.ec_check.proofs.WellHeld.{IsWellPart, IsWellLink, IsWellMember, IsWellStatement, IsWellAddend, IsWellArm, IsWellBlock}
 use Rattle.ec_check.proofs.WellHeld.{IsWellBody, IsWellFactor, IsWellObject, IsWellOperation, IsWellProcess, well}
+use Rattle.ec_check.proofs.WellHeld.{IsWellArgument}
 use Rattle.ec_ast.proofs.Claims.{Passes, Held, ExpressionWith, LinkWith, MemberWith, StatementWith, AddendWith, ArmWith}
 use Rattle.ec_ast.proofs.Claims.{BlockWith, BodyWith, FactorWith, ObjectWith, OperationWith, SectionWith, bare_expression}
 use Rattle.ec_ast.proofs.Claims.{bare_link, bare_member, bare_statement, bare_addend, bare_arm, bare_block, bare_body, bare_factor}
 use Rattle.ec_ast.proofs.Claims.{bare_object, bare_operation, bare_section, expression_holds, body_holds}
+use Rattle.ec_ast.proofs.Claims.{ArgumentWith, bare_argument}
+use Rattle.ec_ast.specs.declared.Argument.{roll-Argument}
+use Rattle.ec_ast.specs.declared.Span.{Span}
 
 -- ---- lists of parts
 
@@ -117,11 +124,14 @@ block_at y =
 -- ---- links, factors and addends
 
 link_is : (y : LinkWith well) → WellLink (link_step (link_mapped (bare_link well y)))
-link_is (Link-F.Call name xs) = each_held part_of WellPart xs
+link_is (Link-F.Call name xs) = each_within argument_of (λ a. a.value) WellPart xs
 link_is (Link-F.Index x at) = x.1
 
 link_at : (y : LinkWith well) → IsWellLink (roll-Link (bare_link well y))
 link_at y = subst WellLink (sym (link_rolled (bare_link well y))) (link_is y)
+
+argument_at : (y : ArgumentWith well) → IsWellArgument (roll-Argument (bare_argument well y))
+argument_at y = subst (λ a. WellPart a.value) (sym (argument_rolled (bare_argument well y))) y.value.1
 
 factor_at : (y : FactorWith well) → IsWellFactor (roll-Factor (bare_factor well y))
 factor_at y = subst WellFactor (sym (factor_rolled (bare_factor well y))) y.value.1
@@ -141,32 +151,40 @@ member_is (Member-F.Operation o) = o.1
 member_at : (y : MemberWith well) → IsWellMember (roll-Member (bare_member well y))
 member_at y = subst WellMember (sym (member_rolled (bare_member well y))) (member_is y)
 
+abbrev with_failure : OperationWith well → Option (Held IsWellProcess) → OperationWith well
+with_failure y failure = record y { failure = failure }
+
+operation_is : (y : OperationWith well) (failure : Option (Held IsWellProcess)) →
+    WellOperation (operation_step (operation_mapped (bare_operation well (with_failure y failure))))
+operation_is y None = (y.block.1, tt)
+operation_is y (Some c) = (y.block.1, c.1)
+
 operation_at : (y : OperationWith well) → IsWellOperation (roll-Operation (bare_operation well y))
-operation_at y = subst WellOperation (sym (operation_rolled (bare_operation well y))) y.block.1
+operation_at y = subst WellOperation (sym (operation_rolled (bare_operation well y))) (operation_is y y.failure)
 
 process_at : (y : SectionWith well) → IsWellProcess (roll-Section (bare_section well y))
 process_at y = subst WellProcess (sym (section_rolled (bare_section well y))) y.block.1
 
-abbrev body_layer : List (Held IsWellMember) → Option (Held IsWellBlock) → Option (Held IsWellProcess) → BodyWith well
-body_layer ms i p = record { members = ms; initially = i; process = p }
+abbrev body_layer : List (Held IsWellMember) → Option (Held IsWellProcess) → Option (Held IsWellProcess) → Span → BodyWith well
+body_layer ms i p at = record { members = ms; initially = i; process = p; end_at = at }
 
-body_is : (ms : List (Held IsWellMember)) (i : Option (Held IsWellBlock)) (p : Option (Held IsWellProcess)) →
-    SoundBody (body_step (body_mapped (bare_body well (body_layer ms i p)))) →
-    RangedBody (body_step (body_mapped (bare_body well (body_layer ms i p)))) →
-    WellBody (body_step (body_mapped (bare_body well (body_layer ms i p))))
-body_is ms None None s r =
+body_is : (ms : List (Held IsWellMember)) (i p : Option (Held IsWellProcess)) (at : Span) →
+    SoundBody (body_step (body_mapped (bare_body well (body_layer ms i p at)))) →
+    RangedBody (body_step (body_mapped (bare_body well (body_layer ms i p at)))) →
+    WellBody (body_step (body_mapped (bare_body well (body_layer ms i p at))))
+body_is ms None None at s r =
     record { sound = s; ranged = r; members = each_held member_of WellMember ms; initially = tt; process = tt }
-body_is ms None (Some p) s r =
+body_is ms None (Some p) at s r =
     record { sound = s; ranged = r; members = each_held member_of WellMember ms; initially = tt; process = p.1 }
-body_is ms (Some i) None s r =
+body_is ms (Some i) None at s r =
     record { sound = s; ranged = r; members = each_held member_of WellMember ms; initially = i.1; process = tt }
-body_is ms (Some i) (Some p) s r =
+body_is ms (Some i) (Some p) at s r =
     record { sound = s; ranged = r; members = each_held member_of WellMember ms; initially = i.1; process = p.1 }
 
 body_at : (y : BodyWith well) → IsWellBody (roll-Body (bare_body well y))
 body_at y =
     subst WellBody (sym (body_rolled (bare_body well y)))
-    (body_is y.members y.initially y.process
+    (body_is y.members y.initially y.process y.end_at
     (subst SoundBody (body_rolled (bare_body well y)) (good_body (roll-Body (bare_body well y))).0)
     (subst RangedBody (body_rolled (bare_body well y)) (ranged_body (roll-Body (bare_body well y)))))
 
@@ -182,6 +200,7 @@ passes = record {
   member = member_at;
   statement = statement_at;
   addend = addend_at;
+  argument = argument_at;
   arm = arm_at;
   block = block_at;
   body = body_at;

@@ -44,10 +44,10 @@ use Rattle.ec_core_laws.proofs.CountedParts.{Counted, OperationFits, nothing_cou
 use Rattle.ec_core_laws.proofs.CountedParts.{operation_counted}
 use Rattle.ec_places.proofs.DeclaredRolled.{expression_declared, link_declared, member_declared, statement_declared, addend_declared}
 use Rattle.ec_places.proofs.DeclaredRolled.{arm_declared, block_declared, body_declared, factor_declared, object_declared}
-use Rattle.ec_places.proofs.DeclaredRolled.{operation_declared, process_declared}
+use Rattle.ec_places.proofs.DeclaredRolled.{operation_declared, section_declared}
 use Rattle.ec_places.proofs.DeclaredRolled.{expression_declares, link_declares, member_declares, statement_declares, addend_declares}
 use Rattle.ec_places.proofs.DeclaredRolled.{arm_declares, block_declares, body_declares, factor_declares, object_declares}
-use Rattle.ec_places.proofs.DeclaredRolled.{operation_declares, process_declares, in_operation}
+use Rattle.ec_places.proofs.DeclaredRolled.{operation_declares, section_declares, in_operation}
 use Rattle.ec_rules.specs.Judging.{expression_part, statement_part, faults_of, statement_finished, block_finished, operation_faults}
 use Rattle.ec_rules.specs.Limits.{many_operations, many_parameters, measured, too_large, variables_of}
 use Rattle.ec_rules.specs.Lists.{each}
@@ -343,7 +343,7 @@ operation_at y =
 -- made of a process section at its word
 process_is : (y : SectionWith counted) →
     CountedProcess (section_step (section_mapped (bare_section counted y)))
-    (conform.section_step (process_declared (bare_section counted y)))
+    (conform.section_step (section_declared (bare_section counted y)))
 process_is y = λ class env name.
     let p : SectionPart = section_step (section_mapped (bare_section counted y)) in
     operation_counted (process_operation class env name p) p.at (λ e. none_left _ _ e)
@@ -353,7 +353,7 @@ process_at : (y : SectionWith counted) → IsCountedProcess (roll-Section (bare_
 process_at y =
     subst (λ x. CountedProcess x (in_process (roll-Section (bare_section counted y))))
     (sym (section_rolled (bare_section counted y)))
-    (subst (CountedProcess (section_step (section_mapped (bare_section counted y)))) (sym (process_declares (bare_section counted y)))
+    (subst (CountedProcess (section_step (section_mapped (bare_section counted y)))) (sym (section_declares (bare_section counted y)))
     (process_is y))
 
 abbrev body_layer : List (Held IsCountedMember) → Option (Held IsCountedBlock) → Option (Held IsCountedProcess) → BodyWith counted

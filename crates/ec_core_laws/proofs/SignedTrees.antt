@@ -39,10 +39,10 @@ use Rattle.ec_core_laws.proofs.Signatures.{KnowingOperation, KnowingBody, Knowin
 use Rattle.ec_core_laws.proofs.Signatures.{values_declare, postfix_declares, within_members_known, members_declare, holder_declares}
 use Rattle.ec_places.proofs.DeclaredRolled.{expression_declared, link_declared, member_declared, statement_declared, addend_declared}
 use Rattle.ec_places.proofs.DeclaredRolled.{arm_declared, block_declared, body_declared, factor_declared, object_declared}
-use Rattle.ec_places.proofs.DeclaredRolled.{operation_declared, process_declared, in_operation}
+use Rattle.ec_places.proofs.DeclaredRolled.{operation_declared, section_declared, in_operation}
 use Rattle.ec_places.proofs.DeclaredRolled.{expression_declares, link_declares, member_declares, statement_declares, addend_declares}
 use Rattle.ec_places.proofs.DeclaredRolled.{arm_declares, block_declares, body_declares, factor_declares, object_declares}
-use Rattle.ec_places.proofs.DeclaredRolled.{operation_declares, process_declares}
+use Rattle.ec_places.proofs.DeclaredRolled.{operation_declares, section_declares}
 use Rattle.ec_rules.specs.Judging.{expression_part, statement_part, faults_of, statement_finished, block_finished, members_finished}
 use Rattle.ec_rules.specs.Parts as judged
 use Rattle.ec_rules.specs.Statements.{piece_of_arm}
@@ -360,14 +360,14 @@ operation_at y =
 
 process_is : (y : SectionWith knowing) →
     KnowingProcess (section_step (section_mapped (bare_section knowing y)))
-    (conform.section_step (process_declared (bare_section knowing y)))
+    (conform.section_step (section_declared (bare_section knowing y)))
 process_is y = λ scope e. y.block.1 (in_a_process scope) (none_left _ _ e)
 
 process_at : (y : SectionWith knowing) → IsKnowingProcess (roll-Section (bare_section knowing y))
 process_at y =
     subst (λ x. KnowingProcess x (in_process (roll-Section (bare_section knowing y))))
     (sym (section_rolled (bare_section knowing y)))
-    (subst (KnowingProcess (section_step (section_mapped (bare_section knowing y)))) (sym (process_declares (bare_section knowing y)))
+    (subst (KnowingProcess (section_step (section_mapped (bare_section knowing y)))) (sym (section_declares (bare_section knowing y)))
     (process_is y))
 
 abbrev body_layer : List (Held IsKnowingMember) → Option (Held IsKnowingBlock) → Option (Held IsKnowingProcess) → BodyWith knowing

@@ -24,6 +24,7 @@ use Rattle.ec_types.specs.Declarations.{in_addend, in_arm}
 use Rattle.ec_types.specs.Declarations.{in_block, in_body, in_factor, in_constructor, in_process}
 use Rattle.ec_types.specs.Declarations.{expression_step, link_step, member_step, statement_step, addend_step, arm_step}
 use Rattle.ec_types.specs.Declarations.{block_step, body_step, factor_step, constructor_step, operation_step, section_step}
+use Rattle.ec_types.specs.Declarations.{in_argument, in_clause, in_section, argument_step}
 use Rattle.ec_types.specs.declared.conform.declared.DeclaredType.{DeclaredType}
 use Rattle.ec_lexer.specs.declared.token.Token.{Token}
 use Rattle.ec_parser.specs.Chains.{or_of, and_of, sum_of, term_of, postfix_of}
@@ -34,11 +35,13 @@ use Rattle.ec_places.proofs.DeclaredRolled.{BodyLayer, FactorLayer, ObjectLayer,
 use Rattle.ec_places.proofs.DeclaredRolled.{expression_declared, link_declared, member_declared, statement_declared}
 use Rattle.ec_places.proofs.DeclaredRolled.{addend_declared}
 use Rattle.ec_places.proofs.DeclaredRolled.{arm_declared, block_declared, body_declared, factor_declared, object_declared}
-use Rattle.ec_places.proofs.DeclaredRolled.{operation_declared, process_declared}
+use Rattle.ec_places.proofs.DeclaredRolled.{operation_declared, section_declared}
 use Rattle.ec_places.proofs.DeclaredRolled.{expression_declares, link_declares, member_declares, statement_declares}
 use Rattle.ec_places.proofs.DeclaredRolled.{addend_declares}
 use Rattle.ec_places.proofs.DeclaredRolled.{arm_declares, block_declares, body_declares, factor_declares, object_declares}
-use Rattle.ec_places.proofs.DeclaredRolled.{operation_declares, process_declares}
+use Rattle.ec_places.proofs.DeclaredRolled.{operation_declares, section_declares}
+use Rattle.ec_places.proofs.DeclaredRolled.{ArgumentLayer, argument_declared, argument_declares}
+use Rattle.ec_ast.specs.declared.Argument.{roll-Argument}
 
 -- ---- one layer of each kind of part: a variant, by the equation that it is rolled of its layer, and a struct
 
@@ -67,6 +70,10 @@ module _ {ts us : List Token} where
       Among ts us (addend_step (addend_declared y)).types → Among ts us (in_addend (roll-Addend y)).types
   of_addend y h = subst (λ d. Among ts us d.types) (sym (addend_declares y)) h
 
+  pub of_argument : (y : ArgumentLayer) →
+      Among ts us (argument_step (argument_declared y)).types → Among ts us (in_argument (roll-Argument y)).types
+  of_argument y h = subst (λ d. Among ts us d.types) (sym (argument_declares y)) h
+
   pub of_arm : (y : ArmLayer) →
       Among ts us (arm_step (arm_declared y)).types → Among ts us (in_arm (roll-Arm y)).types
   of_arm y h = subst (λ d. Among ts us d.types) (sym (arm_declares y)) h
@@ -91,9 +98,9 @@ module _ {ts us : List Token} where
       Among ts us (operation_step (operation_declared y)).within.types → Among ts us (in_operation (roll-Operation y)).within.types
   of_operation y h = subst (λ d. Among ts us d.within.types) (sym (operation_declares y)) h
 
-  pub of_process : (y : SectionLayer) →
-      Among ts us (section_step (process_declared y)).types → Among ts us (in_process (roll-Section y)).types
-  of_process y h = subst (λ d. Among ts us d.types) (sym (process_declares y)) h
+  pub of_section : (y : SectionLayer) →
+      Among ts us (section_step (section_declared y)).within.types → Among ts us (in_section (roll-Section y)).within.types
+  of_section y h = subst (λ d. Among ts us d.within.types) (sym (section_declares y)) h
 
 -- ---- chains
 
@@ -162,11 +169,11 @@ module _ {ts us : List Token} where
   of_variable is_attached name of (Some x) h =
       of_member (Member-F.Member::Variable is_attached name of (Some x)) (member.rolls-Variable is_attached name of (Some x)) h
 
-  pub of_members : (xs : List Member) (initially : Option Block) (process : Option Section) →
-      Among ts us ((within_members (map in_member xs)).types ++ ((if_there (option_map in_block initially)).types ++
-      (if_there (option_map in_process process)).types)) →
-      Among ts us (in_body (roll-Body (record { members = xs; initially = initially; process = process }))).within.types
-  of_members xs None None h = of_body (record { members = xs; initially = None; process = None }) h
-  of_members xs None (Some p) h = of_body (record { members = xs; initially = None; process = Some p }) h
-  of_members xs (Some b) None h = of_body (record { members = xs; initially = Some b; process = None }) h
-  of_members xs (Some b) (Some p) h = of_body (record { members = xs; initially = Some b; process = Some p }) h
+  pub of_members : (xs : List Member) (initially process : Option Section) (at : Span) →
+      Among ts us ((within_members (map in_member xs)).types ++ ((in_clause (option_map in_section initially)).types ++
+      (in_process (option_map in_section process)).types)) →
+      Among ts us (in_body (roll-Body (record { members = xs; initially = initially; process = process; end_at = at }))).within.types
+  of_members xs None None at h = of_body (record { members = xs; initially = None; process = None; end_at = at }) h
+  of_members xs None (Some p) at h = of_body (record { members = xs; initially = None; process = Some p; end_at = at }) h
+  of_members xs (Some b) None at h = of_body (record { members = xs; initially = Some b; process = None; end_at = at }) h
+  of_members xs (Some b) (Some p) at h = of_body (record { members = xs; initially = Some b; process = Some p; end_at = at }) h

@@ -18,6 +18,7 @@ use Rattle.ec_ast.specs.declared.Statement.{Statement}
 use Rattle.ec_ast.specs.declared.Statement.TheVariants as s
 use Rattle.ec_types.specs.Declarations.{joined, if_there, within_members, in_expression, in_link, in_member, in_statement}
 use Rattle.ec_types.specs.Declarations.{in_addend, in_arm, in_block, in_body, in_factor, in_constructor, in_process}
+use Rattle.ec_types.specs.Declarations.{in_argument, in_clause, in_section}
 use Rattle.ec_lexer.specs.declared.token.Token.{Token}
 use Rattle.ec_parser.specs.HasTree.{Ending, IsPrimary, IsPostfix, AreLinks, AreArguments, AreMoreArguments, IsUnary, IsTerm}
 use Rattle.ec_parser.specs.HasTree.{AreFactors}
@@ -26,8 +27,9 @@ use Rattle.ec_parser.specs.HasTree.{IsElse, IsBlock, IsMember, AreMembers, IsIni
 use Rattle.ec_places.proofs.Among.{Among, arrived, passed, named, and_then, past}
 use Rattle.ec_places.proofs.Parts.{of_expression, of_link, of_member, of_statement, of_addend, of_arm, of_block, of_factor}
 use Rattle.ec_places.proofs.Parts.{of_local_variable, of_if, of_variable, of_members}
-use Rattle.ec_places.proofs.Parts.{of_object, of_operation, of_process, or_chain, and_chain, sum_chain, term_chain, postfix_chain}
+use Rattle.ec_places.proofs.Parts.{of_object, of_operation, of_argument, of_section, or_chain, and_chain, sum_chain, term_chain, postfix_chain}
 use Rattle.ec_places.proofs.Skipped.{name_at, flag, brackets, type, type_option, params_option, result}
+use Rattle.ec_ast.specs.declared.Argument.{Argument}
 
 mutual
   -- ---- primaries and postfixes
@@ -61,15 +63,15 @@ mutual
   links (AreLinks.index may e h f k) =
       and_then (of_link _ (link.rolls-Index _ _) (passed (past (expr h) (passed arrived)))) (links k)
 
-  arguments : {ts us : List Token} {xs : List Expression} → AreArguments ts us xs →
-      Among ts us (joined (map in_expression xs)).types
+  arguments : {ts us : List Token} {xs : List Argument} → AreArguments ts us xs →
+      Among ts us (joined (map in_argument xs)).types
   arguments AreArguments.no_arguments = arrived
-  arguments (AreArguments.arguments h k) = and_then (expr h) (more_arguments k)
+  arguments (AreArguments.arguments h k) = and_then (of_argument _ (expr h)) (more_arguments k)
 
-  more_arguments : {ts us : List Token} {xs : List Expression} → AreMoreArguments ts us xs →
-      Among ts us (joined (map in_expression xs)).types
+  more_arguments : {ts us : List Token} {xs : List Argument} → AreMoreArguments ts us xs →
+      Among ts us (joined (map in_argument xs)).types
   more_arguments AreMoreArguments.arguments_end = arrived
-  more_arguments (AreMoreArguments.comma_argument e h k) = passed (and_then (expr h) (more_arguments k))
+  more_arguments (AreMoreArguments.comma_argument e h k) = passed (and_then (of_argument _ (expr h)) (more_arguments k))
 
   -- ---- expressions
 
@@ -174,23 +176,24 @@ mutual
       of_member _ (m.rolls-Operation _)
       (of_operation _
       (and_then (flag is) (passed (passed (and_then (params_option ps)
-      (and_then (result r) (past (of_block _ (block h)) (passed (passed arrived)))))))))
+      (and_then (result r) (and_then (of_block _ (block h)) (passed (passed arrived)))))))))
 
   members : {ts us : List Token} {xs : List Member} → AreMembers ts us xs → Among ts us (within_members (map in_member xs)).types
   members AreMembers.members_end = arrived
   members (AreMembers.member h k) = and_then (member h) (members k)
 
-  initially : {ts us : List Token} {x : Option Block} → IsInitially ts us x → Among ts us (if_there (option_map in_block x)).types
+  initially : {ts us : List Token} {x : Option Section} → IsInitially ts us x →
+      Among ts us (in_clause (option_map in_section x)).types
   initially IsInitially.no_initially = arrived
-  initially (IsInitially.initially e h f g) = passed (past (of_block _ (block h)) (passed (passed arrived)))
+  initially (IsInitially.initially e h f g) = passed (past (of_section _ (of_block _ (block h))) (passed (passed arrived)))
 
   process : {ts us : List Token} {x : Option Section} → IsProcess ts us x →
-      Among ts us (if_there (option_map in_process x)).types
+      Among ts us (in_process (option_map in_section x)).types
   process IsProcess.no_process = arrived
-  process (IsProcess.process e h f g) = passed (of_process _ (past (of_block _ (block h)) (passed (passed arrived))))
+  process (IsProcess.process e h f g) = passed (past (of_section _ (of_block _ (block h))) (passed (passed arrived)))
 
   pub body : {ts us : List Token} {x : Body} → IsBody ts us x → Among ts us (in_body x).within.types
-  body (IsBody.body h k l) = of_members _ _ _ (and_then (members h) (and_then (initially k) (process l)))
+  body (IsBody.body h k l) = of_members _ _ _ _ (and_then (members h) (and_then (initially k) (process l)))
 
   object : {ts us : List Token} {x : ObjectConstructor} → IsObject ts us x → Among ts us (in_constructor x).types
   object (IsObject.object_constructor is e f h g i) =

@@ -229,6 +229,26 @@ expressions::resolve_all-returns-clause-core = Expressions.resolve_all-returns-c
 pub expressions::resolve_all-returns-clause-made : goal.expressions::resolve_all-returns-clause-made
 expressions::resolve_all-returns-clause-made = Expressions.resolve_all-returns-clause-made
 
+pub expressions::resolve_arguments-loop-a-init :
+    goal.expressions::resolve_arguments-loop-a-init
+expressions::resolve_arguments-loop-a-init =
+    Expressions.resolve_arguments-loop-a-init
+
+pub expressions::resolve_arguments-loop-a-preserved :
+    goal.expressions::resolve_arguments-loop-a-preserved
+expressions::resolve_arguments-loop-a-preserved =
+    Expressions.resolve_arguments-loop-a-preserved
+
+pub expressions::resolve_arguments-returns-clause-core :
+    goal.expressions::resolve_arguments-returns-clause-core
+expressions::resolve_arguments-returns-clause-core =
+    Expressions.resolve_arguments-returns-clause-core
+
+pub expressions::resolve_arguments-returns-clause-made :
+    goal.expressions::resolve_arguments-returns-clause-made
+expressions::resolve_arguments-returns-clause-made =
+    Expressions.resolve_arguments-returns-clause-made
+
 pub expressions::resolve_factors-loop-f-init : goal.expressions::resolve_factors-loop-f-init
 expressions::resolve_factors-loop-f-init = Expressions.resolve_factors-loop-f-init
 
@@ -254,6 +274,26 @@ pub expressions::resolve_addends-returns-clause-made : goal.expressions::resolve
 expressions::resolve_addends-returns-clause-made = Expressions.resolve_addends-returns-clause-made
 
 -- ---- statements
+
+pub statements::resolve_section_if-returns-in-None-clause-core :
+    goal.statements::resolve_section_if-returns-in-None-clause-core
+statements::resolve_section_if-returns-in-None-clause-core =
+    Statements.resolve_section_if-returns-in-None-clause-core
+
+pub statements::resolve_section_if-returns-in-None-clause-gone :
+    goal.statements::resolve_section_if-returns-in-None-clause-gone
+statements::resolve_section_if-returns-in-None-clause-gone =
+    Statements.resolve_section_if-returns-in-None-clause-gone
+
+pub statements::resolve_section_if-returns-in_ok-resolve_block-in-Some-clause-core :
+    goal.statements::resolve_section_if-returns-in_ok-resolve_block-in-Some-clause-core
+statements::resolve_section_if-returns-in_ok-resolve_block-in-Some-clause-core =
+    Statements.resolve_section_if-returns-in_ok-resolve_block-in-Some-clause-core
+
+pub statements::resolve_section_if-returns-in_ok-resolve_block-in-Some-clause-gone :
+    goal.statements::resolve_section_if-returns-in_ok-resolve_block-in-Some-clause-gone
+statements::resolve_section_if-returns-in_ok-resolve_block-in-Some-clause-gone =
+    Statements.resolve_section_if-returns-in_ok-resolve_block-in-Some-clause-gone
 
 pub statements::resolve_statement-returns-in-LocalVariable-clause-core :
     goal.statements::resolve_statement-returns-in-LocalVariable-clause-core

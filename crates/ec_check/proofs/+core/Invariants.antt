@@ -1,9 +1,10 @@
 use Rattle.std.proofs.Common.{◌≡◌, ◌++◌, drop, length, map}
 use Rattle.ec_check.proofs.Along.{AlongGone, AlongMade, AlongStatements}
 use Rattle.ec_check.specs.Making.{env_of}
+use Rattle.ec_check.specs.Parts.{values_of}
 use Rattle.ec_check.specs.Resolving.{addend_core, all_made, arms_core, arms_made, cores_of, factor_core, field_stored, further, links_core}
 use Rattle.ec_check.specs.Resolving.{locals_of_arms, members_made, parts_of_links, statements_core}
-use Rattle.ec_check.specs.Tree.{addend_of, arm_of, factor_of, link_of, member_of, part_of, statement_of}
+use Rattle.ec_check.specs.Tree.{addend_of, argument_of, arm_of, factor_of, link_of, member_of, part_of, statement_of}
 use Rattle.ec_rules.specs.Calls.{receiver_seen}
 use Rattle.ec_rules.specs.Lists.{each}
 use Rattle.ec_check.proofs.+core.Given as goal
@@ -33,6 +34,15 @@ invariant-expressions::resolve_all-loop-e l =
           (all_made l.initial.r.walk.scope (map part_of l.es));
       core : l.found ++ cores_of (env_of l.initial.r) (map part_of (drop l.e-index l.es)) ≡ cores_of (env_of l.initial.r)
           (map part_of l.es);
+    }
+
+abbrev pub invariant-expressions::resolve_arguments-loop-a : goal.invariant-expressions::resolve_arguments-loop-a
+invariant-expressions::resolve_arguments-loop-a l =
+    record {
+      made : AlongMade l.initial.r l.r (all_made l.initial.r.walk.scope (values_of (map argument_of (drop l.a-index l.arguments))))
+          (all_made l.initial.r.walk.scope (values_of (map argument_of l.arguments)));
+      core : l.found ++ cores_of (env_of l.initial.r) (values_of (map argument_of (drop l.a-index l.arguments)))
+          ≡ cores_of (env_of l.initial.r) (values_of (map argument_of l.arguments));
     }
 
 abbrev pub invariant-expressions::resolve_factors-loop-f : goal.invariant-expressions::resolve_factors-loop-f

@@ -50,7 +50,7 @@ resolve_behind-returns-clause-made t c = whatever c.joined.result c.in_ok-more.e
 pub resolve_link-returns-in_ok-found-in-Call-clause-core : goal.chains::resolve_link-returns-in_ok-found-in-Call-clause-core
 resolve_link-returns-in_ok-found-in-Call-clause-core t c =
     subst (λ x. IfOk c.called.result (λ d. d ≡ x))
-    (links.call_core c.args.r.now c.resolve_all.new.r (receiver_seen c.args.before) c.args.link.now c.in-Call.name
+    (links.call_core c.args.r.now c.resolve_arguments.new.r (receiver_seen c.args.before) c.args.link.now c.in-Call.name
     c.in-Call.arguments c.as_slice.result.now
     c.in_ok-found-in-Call.found c.in_ok-found-in-Call.ensures.made c.in_ok-found-in-Call.ensures.core c.as_slice.ensures c.in-Call.is)
     c.called.ensures
@@ -58,7 +58,7 @@ resolve_link-returns-in_ok-found-in-Call-clause-core t c =
 pub resolve_link-returns-in_ok-found-in-Call-clause-made : goal.chains::resolve_link-returns-in_ok-found-in-Call-clause-made
 resolve_link-returns-in_ok-found-in-Call-clause-made t c =
     whatever c.called.result
-    (links.call_made c.args.r.now c.resolve_all.new.r (receiver_seen c.args.before) c.args.link.now c.in-Call.name
+    (links.call_made c.args.r.now c.resolve_arguments.new.r (receiver_seen c.args.before) c.args.link.now c.in-Call.name
     c.in-Call.arguments c.as_slice.result.now
     c.in_ok-found-in-Call.ensures.made c.as_slice.ensures c.in-Call.is)
 

@@ -1,20 +1,22 @@
 -- Answers: what is left to show of the functions of `expressions`.
 use Rattle.std.proofs.Common.{◌≡◌, ◌++◌, IfOk, map, true, refl, ap, ◌∙◌, subst}
 use Rattle.ec_ast.specs.declared.Addend.{out-Addend}
+use Rattle.ec_ast.specs.declared.Argument.{out-Argument}
 use Rattle.ec_ast.specs.declared.Factor.{out-Factor}
 use Rattle.ec_check.proofs.Along.{along_first, found_end, found_next, made_in, over_end, over_next}
 use Rattle.ec_check.proofs.Blocks.{on_ok}
 use Rattle.ec_ast.proofs.Layers as layers
 use Rattle.ec_check.proofs.Forms.{core_is, has_made}
 use Rattle.ec_check.proofs.HolderBodies.{holder_made}
-use Rattle.ec_check.proofs.Operands.{addend_cored, addend_made, chain_cored, chain_has_made, compare_cored, compare_made, factor_cored}
+use Rattle.ec_check.proofs.Operands.{addend_cored, addend_made, argument_cored, argument_made, chain_cored, chain_has_made, compare_cored, compare_made, factor_cored}
 use Rattle.ec_check.proofs.Operands.{factor_made, one_made, two_made}
 use Rattle.ec_check.proofs.Steps.{same_made, unmade}
 use Rattle.ec_check.specs.Making.{env_of}
 use Rattle.ec_check.specs.Places.{place_of}
 use Rattle.ec_check.specs.Resolving as spec
+use Rattle.ec_check.specs.Parts.{values_of}
 use Rattle.ec_check.specs.Resolving.{addend_core, all_made, cores_of, factor_core}
-use Rattle.ec_check.specs.Tree.{addend_of, factor_of, object_of, part_of, parts}
+use Rattle.ec_check.specs.Tree.{addend_of, argument_of, factor_of, object_of, part_of, parts}
 use Rattle.ec_types.specs.Types.{vector_of}
 use Rattle.ec_core.specs.declared.Expression.TheVariants as e
 use Rattle.ec_rules.specs.Calls.{receiver_seen}
@@ -351,6 +353,45 @@ resolve_all-returns-clause-made t c =
     let scope = c.args.r.now.walk.scope in
     over_end (λ y. (part_of y).made scope) (λ ys. all_made scope (map part_of ys)) (λ y ys. refl)
     c.args.es.now c.loop-e.e-index refl c.loop-e-test.false c.loop-e.invariant.made
+
+pub resolve_arguments-loop-a-init : goal.expressions::resolve_arguments-loop-a-init
+resolve_arguments-loop-a-init t c =
+    let env = env_of c.args.r.now in
+    record {
+      made = along_first c.args.r.now (all_made env.scope (values_of (map argument_of c.args.arguments.now)));
+      core = ap (λ f. f ++ cores_of env (values_of (map argument_of c.args.arguments.now))) c.new-found.ensures;
+    }
+
+pub resolve_arguments-loop-a-preserved : goal.expressions::resolve_arguments-loop-a-preserved
+resolve_arguments-loop-a-preserved t c =
+    let env = env_of c.args.r.now in
+    let x = c.a-item.result in
+    let made = c.loop-a.invariant.made in
+    record {
+      made =
+          over_next (λ y. (argument_of y).value.made env.scope) (λ ys. all_made env.scope (values_of (map argument_of ys)))
+          (λ y ys. refl)
+          c.args.arguments.now c.loop-a.a-index x c.loop-a-test.true c.a-item.is made
+          (made_in (argument_of x).value.made made (argument_made x _ _ c.in_ok-resolve.ensures.made));
+      core =
+          found_next (λ y. (argument_of y).value.core env) (λ ys. cores_of env (values_of (map argument_of ys))) (λ y ys. refl)
+          c.loop-a.found c.push.new.self
+          c.args.arguments.now c.loop-a.a-index x _ c.loop-a-test.true c.a-item.is c.in_ok-push.ensures.ok
+          (argument_cored env x _ (c.in_ok-resolve.ensures.core ∙ ap (part_of (out-Argument x).value).core made.place))
+          ∙ c.loop-a.invariant.core;
+    }
+
+pub resolve_arguments-returns-clause-core : goal.expressions::resolve_arguments-returns-clause-core
+resolve_arguments-returns-clause-core t c =
+    found_end (λ ys. cores_of (env_of c.args.r.now) (values_of (map argument_of ys))) refl c.loop-a.found c.args.arguments.now
+    c.loop-a.a-index c.loop-a-test.false
+    ∙ c.loop-a.invariant.core
+
+pub resolve_arguments-returns-clause-made : goal.expressions::resolve_arguments-returns-clause-made
+resolve_arguments-returns-clause-made t c =
+    let scope = c.args.r.now.walk.scope in
+    over_end (λ y. (argument_of y).value.made scope) (λ ys. all_made scope (values_of (map argument_of ys))) (λ y ys. refl)
+    c.args.arguments.now c.loop-a.a-index refl c.loop-a-test.false c.loop-a.invariant.made
 
 pub resolve_factors-loop-f-init : goal.expressions::resolve_factors-loop-f-init
 resolve_factors-loop-f-init t c =

@@ -9,9 +9,10 @@ use Rattle.ec_check.proofs.Equations as equations
 use Rattle.ec_check.proofs.HolderBodies.{body_gone, constructed, constructed_made, found_statements, holder_captures, holder_made}
 use Rattle.ec_check.proofs.Steps.{same_made, unmade}
 use Rattle.ec_check.specs.Making.{env_of}
+use Rattle.ec_check.specs.Parts.{block_in}
 use Rattle.ec_check.specs.Resolving as spec
 use Rattle.ec_check.specs.Resolving.{field_stored, member_made, members_made}
-use Rattle.ec_check.specs.Tree.{block_of, member_of}
+use Rattle.ec_check.specs.Tree.{member_of, section_of}
 use Rattle.ec_check.specs.declared.variables.Variables.{Variables}
 use Rattle.ec_rules.specs.Lists.{each}
 use Rattle.ec_check.proofs.+core.Goals as goal
@@ -128,18 +129,19 @@ resolve_members-returns-clause-made t c =
 pub resolve_operation-returns : goal.holders::resolve_operation-returns
 resolve_operation-returns t c =
     on_ok c.append.result
-    (operation_made c.args.class c.args.o.now c.args.r.now c.begin_operation.new.r c.resolve_block.new.r c.local_count-count.result
+    (operation_made c.args.class c.args.o.now c.args.r.now c.begin_operation.new.r c.resolve_block.new.r c.resolve_section_if.new.r
+    c.local_count-count.result
     c.replace-around.new.dest
-    c.as_slice.result.now c.replace-before.new.dest c.in_ok-block.block c.replace-within.result c.replace-within.new.dest
-    c.forget_locals.new.self
+    c.as_slice.result.now c.replace-before.new.dest c.in_ok-block.block c.in_ok-clause.clause c.replace-within.result
+    c.replace-within.new.dest c.forget_locals.new.self
     c.replace-variables.result c.replace-variables.new.dest c.in_ok-from_slice.field-0 c.len.result c.is_some.result c.push.new.self
     c.append.new.self
     c.local_count-count.ensures
     (ap (λ (v : Variables). v.numbers.items) c.replace-around.ensures.after ∙ c.new.ensures.numbers)
     (ap (λ (v : Variables). v.types) c.replace-around.ensures.after ∙ c.new.ensures.types)
     c.as_slice.ensures c.in_ok-begin_operation.ensures (c.replace-before.ensures.after ∙ c.new-2.ensures)
-    c.in_ok-block.ensures.core c.in_ok-block.ensures.gone c.replace-within.ensures.value
-    (c.replace-within.ensures.after ∙ c.replace-before.ensures.value)
+    c.in_ok-block.ensures.core c.in_ok-block.ensures.gone c.in_ok-clause.ensures.core c.in_ok-clause.ensures.gone
+    c.replace-within.ensures.value (c.replace-within.ensures.after ∙ c.replace-before.ensures.value)
     c.forget_locals.ensures c.replace-variables.ensures.value (c.replace-variables.ensures.after ∙ c.replace-around.ensures.value)
     (c.in_ok-from_slice.ensures ∙ c.as_slice-2.ensures) c.len.ensures c.is_some.ensures c.in_ok-push.ensures.ok)
     c.append.ensures
@@ -166,9 +168,9 @@ resolve_body-returns t c =
     let statements = c.in_ok-statements.ensures
     ∙ ap (λ x. c.in_ok-stored.stored ++ spec.statements_in x) c.in_ok-block.ensures.core
     ∙ ap (λ x. c.in_ok-stored.stored ++ x)
-    (found_statements (env_of behind_members) (option_map block_of (out-Body c.args.body.now).initially)) in
+    (found_statements (env_of behind_members) (block_in (option_map section_of (out-Body c.args.body.now).initially))) in
     on_ok c.resolve_process.result
-    (body_gone c.args.class c.args.body.now c.args.heading c.args.r.now behind_members c.resolve_block_if.new.r
+    (body_gone c.args.class c.args.body.now c.args.heading c.args.r.now behind_members c.resolve_section_if.new.r
     c.resolve_process.new.r c.replace-around.new.dest
     c.replace-before.new.dest c.as_slice.result.now c.in_ok-stored.stored c.in_ok-statements.statements c.replace-within.result
     c.replace-within.new.dest

@@ -1,15 +1,16 @@
 -- Answers: what is left to show of the functions of `statements`.
 use Rattle.std.proofs.Common.{◌≡◌, ◌+◌, ◌++◌, [], ◌∷◌, IfOk, drop, length, map, option_map, Some, true, refl, sym, ap, ◌∙◌, subst}
 use Rattle.std.proofs.lemmas.List.{drop_all}
+use Rattle.ec_check.proofs.Equations.{process_step_of}
 use Rattle.ec_check.proofs.Along.{AlongStatements, found_end, gone_end, gone_first, statement_next, drop_more}
 use Rattle.ec_check.proofs.Blocks as blocks
 use Rattle.ec_check.proofs.Blocks.{on_ok}
 use Rattle.ec_ast.proofs.Layers as layers
 use Rattle.ec_check.proofs.Forms.{behind_none, has_gone, has_only_made, statement_core_is}
 use Rattle.ec_check.proofs.Fusion.{same_part}
-use Rattle.ec_check.proofs.Steps.{gone_same, kept, then_in, unmade}
+use Rattle.ec_check.proofs.Steps.{gone_made, gone_same, kept, then_in, unmade}
 use Rattle.ec_check.specs.Making.{HasGone, env_of}
-use Rattle.ec_check.specs.Parts.{both_made}
+use Rattle.ec_check.specs.Parts.{SectionPart, both_made}
 use Rattle.ec_check.specs.Places.{Env, condition_named, type_or}
 use Rattle.ec_check.specs.Resolving as spec
 use Rattle.ec_check.specs.Tree.{arm_of, block_of, part_of, parts, statement_of}
@@ -385,3 +386,27 @@ resolve_arms-returns-clause-gone t c =
     blocks.arms_end (map arm_of c.args.arms.now)
     (subst (λ ys. blocks.AlongArms c.args.r.now c.loop-arm.r (map arm_of ys) (map arm_of c.args.arms.now))
     (drop_all c.loop-arm.arm-index c.args.arms.now c.loop-arm-test.false) c.loop-arm.invariant.gone)
+
+pub resolve_section_if-returns-in-None-clause-core : goal.statements::resolve_section_if-returns-in-None-clause-core
+resolve_section_if-returns-in-None-clause-core t c = rw c.in-None.is refl
+
+pub resolve_section_if-returns-in-None-clause-gone : goal.statements::resolve_section_if-returns-in-None-clause-gone
+resolve_section_if-returns-in-None-clause-gone t c = rw c.in-None.is (gone_made (unmade c.args.r.now))
+
+pub resolve_section_if-returns-in_ok-resolve_block-in-Some-clause-core :
+    goal.statements::resolve_section_if-returns-in_ok-resolve_block-in-Some-clause-core
+resolve_section_if-returns-in_ok-resolve_block-in-Some-clause-core t c =
+    let step = process_step_of c.in-Some.s in
+    rw c.in-Some.is (ap Some (c.in_ok-resolve_block-in-Some.ensures.core
+    ∙ ap (λ (p : SectionPart). p.block.core (env_of c.args.r.now)) (sym step)))
+
+pub resolve_section_if-returns-in_ok-resolve_block-in-Some-clause-gone :
+    goal.statements::resolve_section_if-returns-in_ok-resolve_block-in-Some-clause-gone
+resolve_section_if-returns-in_ok-resolve_block-in-Some-clause-gone t c =
+    let step = process_step_of c.in-Some.s in
+    let env = env_of c.args.r.now in
+    rw c.in-Some.is (gone_same
+    (ap (λ (p : SectionPart). spec.behind_block env p.block) (sym step))
+    (ap (λ (p : SectionPart). p.block.locals c.args.r.now.walk.scope) (sym step))
+    (ap (λ (p : SectionPart). p.block.made c.args.r.now.walk.scope) (sym step))
+    c.in_ok-resolve_block-in-Some.ensures.gone)
