@@ -7,7 +7,7 @@ use Rattle.ec_ast.specs.declared.Name.{Name}
 use Rattle.ec_ast.specs.declared.Operation.{Operation as OperationTree, out-Operation}
 use Rattle.ec_ast.specs.declared.Parameter.{Parameter}
 use Rattle.ec_ast.specs.declared.Section.{Section, out-Section}
-use Rattle.ec_check.proofs.Equations.{operation_step_of, process_step_of}
+use Rattle.ec_check.proofs.Equations.{operation_step_of, section_step_of}
 use Rattle.ec_check.proofs.Headings.{same_env}
 use Rattle.ec_check.proofs.Steps.{gone_on, gone_same, made_none, same_made}
 use Rattle.ec_check.specs.Making.{HasGone, HasMade, env_of, made_of}
@@ -326,6 +326,6 @@ pub process_gone : (class : ℕ) (own_name : Name) (process : Option Section) (p
     (process_made class (env_of old) own_name (option_map section_of process))
 process_gone class own_name process p old done scope fresh none block within before variables kept name pushed all
     o s n t e k d w i v r f u a =
-    process_same class own_name (ap (λ x. Some x) (sym (process_step_of p)) ∙ ap (option_map section_of) (sym o))
+    process_same class own_name (ap (λ x. Some x) (sym (section_step_of p)) ∙ ap (option_map section_of) (sym o))
     (process_part_gone class own_name (section_part p) old done scope fresh none block within before variables kept name pushed all
     s n t e k d w i v r f u a)

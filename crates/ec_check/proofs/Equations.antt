@@ -90,8 +90,8 @@ arm_step_of = arm_stepped rolled
 pub block_step_of : (x : Block) → block_of x ≡ block_step (block_mapped (out-Block x))
 block_step_of = block_stepped rolled
 
-pub process_step_of : (x : Section) → section_of x ≡ section_step (section_mapped (out-Section x))
-process_step_of = section_stepped rolled
+pub section_step_of : (x : Section) → section_of x ≡ section_step (section_mapped (out-Section x))
+section_step_of = section_stepped rolled
 
 pub operation_step_of : (x : Operation) → operation_of x ≡ operation_step (operation_with parts (out-Operation x))
 operation_step_of = operation_stepped rolled

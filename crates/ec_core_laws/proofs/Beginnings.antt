@@ -111,7 +111,7 @@ program_match table program is none =
     (record {
       nothing = λ n. record { initial = refl; process = omega arith };
       both = both_match;
-      named = λ scope h known o tree e. named_match scope h o;
+      named = λ scope h known o tree clause e. named_match scope h o;
       without = λ scope h known m k. holder_match scope h m k;
       section = λ scope h known p tree e a b j k. section_match scope h p a b j k;
     })

@@ -12,6 +12,7 @@ use Rattle.ec_types.specs.Names.{Text, has_name}
 use Rattle.ec_rules.specs.Doubled.{doubled_in_operation}
 use Rattle.ec_rules.specs.EndNames.{end_of_operation}
 use Rattle.ec_rules.specs.Judging.{finished_if, first_finished, members_finished, member_faults, operation_faults}
+use Rattle.ec_rules.specs.Judging.{clause_finished, blocks_finished}
 use Rattle.ec_rules.specs.Limits.{many_parameters, too_large, variables_of}
 use Rattle.ec_rules.specs.Lists.{each}
 use Rattle.ec_rules.specs.Members as rules
@@ -22,25 +23,35 @@ use Rattle.ec_types.specs.declared.scopes.entries.Entry.{Entry}
 use Rattle.ec_types.specs.declared.scopes.object.Object.{Object}
 use Rattle.ec_types.specs.declared.scopes.scope.Scope.{Scope}
 use Rattle.ec_types.specs.Scopes.{innermost, with_locals, at_loop, at_process, declaring, in_a_loop, in_a_process}
+use Rattle.ec_rules.specs.Parts.{Finished}
 
 -- ---- faults
 
+abbrev pub inside : Scope → Holder → OperationPart → Scope
+inside scope h o = scope_of_operation (scope_in scope h) (operation_judged o)
+
+-- the block of an operation, and its failure clause
+abbrev pub blocks_of : Scope → Holder → OperationPart → Finished
+blocks_of scope h o = blocks_finished (inside scope h o) (operation_judged o)
+
 pub block_faultless : (scope : Scope) (h : Holder) (o : OperationPart) → OperationFaultless scope h o →
-    (o.block.piece (scope_of_operation (scope_in scope h) (operation_judged o))).faults ≡ []
-block_faultless scope h o e = none_left _ _ (none_left _ _ e)
+    (o.block.piece (inside scope h o)).faults ≡ []
+block_faultless scope h o e = none_left _ _ (none_left _ _ (none_left _ _ e))
+
+pub clause_faultless : (scope : Scope) (h : Holder) (o : OperationPart) → OperationFaultless scope h o →
+    (clause_finished (inside scope h o) (option_map (λ p. p.piece) o.failure)).faults ≡ []
+clause_faultless scope h o e = none_right _ _ (none_left _ _ (none_left _ _ e))
 
 pub operation_small : (scope : Scope) (h : Holder) (o : OperationPart) → OperationFaultless scope h o →
-    too_large o.name.at (variables_of (operation_judged o)) (o.block.piece (scope_of_operation (scope_in scope h)
-    (operation_judged o))).done ≡ []
+    too_large o.name.at (variables_of (operation_judged o)) (blocks_of scope h o).done ≡ []
 operation_small scope h o e =
-    let within : operation_faults (scope_in scope h) (operation_judged o)
-    (o.block.piece (scope_of_operation (scope_in scope h) (operation_judged o))) ≡ [] =
+    let within : operation_faults (scope_in scope h) (operation_judged o) (blocks_of scope h o) ≡ [] =
     none_left _ (member_faults (scope_in scope h) h.is_monitored (judged.operation (operation_judged o))) e in
     none_left _ _
     (none_right (many_parameters o.parameters) _
     (none_right (end_of_operation (operation_judged o)) _
     (none_right (doubled_in_operation (operation_judged o)) _
-    (none_right (o.block.piece (scope_of_operation (scope_in scope h) (operation_judged o))).faults _ within))))
+    (none_right (blocks_of scope h o).faults _ within))))
 
 pub section_faultless : (scope : Scope) (h : Holder) (p : SectionPart) → ProcessFaultless scope h p →
     (p.block.piece (in_a_process (scope_in scope h))).faults ≡ []

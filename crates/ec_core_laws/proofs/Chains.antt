@@ -13,16 +13,19 @@ use Rattle.ec_check.proofs.RangedChains.{creation_arguments}
 use Rattle.ec_check.proofs.Rolled.{ExpressionLayer, LinkLayer, expression_mapped, link_mapped, part_rolled, link_rolled}
 use Rattle.ec_check.specs.Layers.{expression_judged}
 use Rattle.ec_check.specs.Parts.{both_made, Part, LinkPart, call, link_judged}
+use Rattle.ec_check.specs.Parts.{values_of, marks_of}
 use Rattle.ec_check.specs.Places.{Env}
 use Rattle.ec_check.specs.Resolving.{all_made, cores_of, links_core, chained, number_of_class, chain_core, chain_of}
 use Rattle.ec_check.specs.Resolving.{parts_of_links, chain_parts, parts_of_chain}
 use Rattle.ec_check.specs.Tree.{part_of, link_of, link_step, expression_step}
+use Rattle.ec_check.specs.Tree.{argument_of}
 use Rattle.ec_types.specs.declared.conform.static_type.StaticType.{StaticType}
 use Rattle.ec_core.specs.declared.Expression.{Expression as CoreExpression}
 use Rattle.ec_core.specs.declared.Expression.TheVariants as e
 use Rattle.ec_core.specs.declared.Link.{Link as CoreLink}
 use Rattle.ec_core_laws.proofs.Links.{LinkTied, ReadyLinks, links_tied, first_link, later_links, parts_joined}
-use Rattle.ec_core_laws.proofs.Ready.{Ready, ReadyPart, second_ready, first_ready, PartTied, StatementTied, BlockTied, parts_tied}
+use Rattle.ec_core_laws.proofs.Links.{arguments_tied}
+use Rattle.ec_core_laws.proofs.Ready.{Ready, ReadyPart, second_ready, first_ready, PartTied, StatementTied, BlockTied}
 use Rattle.ec_core_laws.proofs.CoreTiesTrees as trees
 use Rattle.ec_core_laws.specs.Ties as ties
 use Rattle.ec_core_laws.specs.Ties.{TiedExpression, AreTied, AreLinks, with_links}
@@ -38,6 +41,7 @@ use Rattle.ec_rules.specs.Parts.{value_in, uses_in, faults_in}
 use Rattle.ec_rules.specs.Rules.{is_clean}
 use Rattle.ec_types.specs.declared.scopes.globals.ClassMeant.{ClassMeant}
 use Rattle.ec_types.specs.Scopes.{class_named}
+use Rattle.ec_ast.specs.declared.Carried.{Carried}
 
 -- ---- a name alone
 
@@ -176,7 +180,8 @@ module _ (env : Env) (needed : Bool) (name : Name) (x : Expression) (alone : tre
   first_created : (y : LinkLayer) → trees.LinkLayerHas PartTied StatementTied BlockTied y →
       FirstIs env needed name x xs (roll-Link y) (link_step (link_mapped y))
   first_created (Link-F.Call word arguments) h is r =
-      let parts : List Part = map part_of arguments in
+      let parts : List Part = values_of (map argument_of arguments) in
+      let marks : List (Option Carried) = marks_of (map argument_of arguments) in
       let class : (d : ClassMeant) × (class_named env.scope name.text ≡ Some d)
       × (d.number ≡ number_of_class (class_named env.scope name.text)) =
       some_class (class_named env.scope name.text) there in
@@ -216,7 +221,7 @@ module _ (env : Env) (needed : Bool) (name : Name) (x : Expression) (alone : tre
       (both_made (all_made env.scope parts) (all_made env.scope (parts_of_links (map link_of xs)))))
       alone
       (ties.creation name word class.1 is
-      (parts_tied arguments h env (first_link env (part_of x).part.at needed (Creation name) (call word parts marks) (map link_of xs) r))
+      (arguments_tied arguments h env (first_link env (part_of x).part.at needed (Creation name) (call word parts marks) (map link_of xs) r))
       (links_tied xs k env (part_of x).part.at needed rest
       (later_links env (part_of x).part.at needed (Creation name) (call word parts marks) (map link_of xs) r))))))))
   first_created (Link-F.Index z at) h is r = not_both is

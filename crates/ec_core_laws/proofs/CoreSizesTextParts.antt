@@ -32,8 +32,10 @@ use Rattle.ec_places.proofs.Among.{Among}
 use Rattle.ec_ast.proofs.Rolled.{Rolled, folded, folds_are_rolled}
 use Rattle.ec_ast.specs.Kinds.{ExpressionLayer, LinkLayer, MemberLayer, StatementLayer, AddendLayer, ArmLayer, BlockLayer}
 use Rattle.ec_ast.specs.Kinds.{BodyLayer, FactorLayer, ObjectLayer, OperationLayer, SectionLayer, tree}
+use Rattle.ec_ast.specs.Kinds.{ArgumentLayer}
 use Rattle.ec_ast.specs.Layers as layers
 use Rattle.ec_ast.specs.Layers.{Maps}
+use Rattle.ec_ast.specs.declared.Argument.{Argument, roll-Argument}
 
 -- The first list goes on to the second one, with at least so many tokens up to there.
 pub record Taken (ts us : List Token) (n : ℕ) : Type 0 where
@@ -107,6 +109,9 @@ module _ {ts us : List Token} where
   pub of_addend : (y : AddendLayer) → Taken ts us (1 + nodes.expression y.value) → Taken ts us (nodes.addend (roll-Addend y))
   of_addend y h = subst (Taken ts us) (sym (rolled.addend y)) h
 
+  pub of_argument : (y : ArgumentLayer) → Taken ts us (nodes.expression y.value) → Taken ts us (nodes.argument (roll-Argument y))
+  of_argument y h = subst (Taken ts us) (sym (rolled.argument y)) h
+
   pub of_arm : (y : ArmLayer) → Taken ts us (nodes.expression y.condition + nodes.block y.block) →
       Taken ts us (nodes.arm (roll-Arm y))
   of_arm y h = subst (Taken ts us) (sym (rolled.arm y)) h
@@ -124,11 +129,12 @@ module _ {ts us : List Token} where
   pub of_object : (y : ObjectLayer) → Taken ts us (1 + nodes.body y.body) → Taken ts us (nodes.object (roll-ObjectConstructor y))
   of_object y h = subst (Taken ts us) (sym (rolled.object y)) h
 
-  pub of_operation : (y : OperationLayer) → Taken ts us (nodes.block y.block) → Taken ts us (nodes.operation (roll-Operation y))
+  pub of_operation : (y : OperationLayer) → Taken ts us (steps.operation (layers.operation_mapped nodes y)) →
+      Taken ts us (nodes.operation (roll-Operation y))
   of_operation y h = subst (Taken ts us) (sym (rolled.operation y)) h
 
-  pub of_process : (y : SectionLayer) → Taken ts us (nodes.block y.block) → Taken ts us (nodes.process (roll-Section y))
-  of_process y h = subst (Taken ts us) (sym (rolled.process y)) h
+  pub of_section : (y : SectionLayer) → Taken ts us (nodes.block y.block) → Taken ts us (nodes.section (roll-Section y))
+  of_section y h = subst (Taken ts us) (sym (rolled.section y)) h
 
 -- ---- chains
 
@@ -177,7 +183,7 @@ spare a_field = 1
 pub record Spared (ts us : List Token) (first last : Ending) (n : ℕ) : Type 0 where
   pub fits : (n + spare last) + length us ≤ length ts + spare first
 
-pub call_nodes : (name : Name) (xs : List Expression) → nodes.link (link.Call name xs) ≡ 1 + all_of (map nodes.expression xs)
+pub call_nodes : (name : Name) (xs : List Argument) → nodes.link (link.Call name xs) ≡ 1 + all_of (map nodes.argument xs)
 call_nodes name xs = ap nodes.link (sym (link.rolls-Call name xs)) ∙ rolled.link (Link-F.Call name xs)
 
 pub index_nodes : (x : Expression) (at : Span) → nodes.link (link.Index x at) ≡ 1 + nodes.expression x
@@ -194,12 +200,12 @@ module _ {us vs : List Token} {last : Ending} where
       let l : (rest + spare last) + length vs ≤ length us + 1 = k.fits in
       record { fits = omega arith }
 
-  pub call_spared : {a b c d : Token} {ts : List Token} {before : Ending} {rest : ℕ} (name : Name) (xs : List Expression) →
-      Taken ts (d ∷ us) (all_of (map nodes.expression xs)) → Spared us vs a_call last rest →
+  pub call_spared : {a b c d : Token} {ts : List Token} {before : Ending} {rest : ℕ} (name : Name) (xs : List Argument) →
+      Taken ts (d ∷ us) (all_of (map nodes.argument xs)) → Spared us vs a_call last rest →
       Spared (a ∷ b ∷ c ∷ ts) vs before last (nodes.link (link.Call name xs) + rest)
   call_spared {a} {b} {c} {d} {ts} {before} {rest} name xs h k =
-      let n : nodes.link (link.Call name xs) ≡ 1 + all_of (map nodes.expression xs) = call_nodes name xs in
-      let m : all_of (map nodes.expression xs) + length (d ∷ us) ≤ length ts = h.fits in
+      let n : nodes.link (link.Call name xs) ≡ 1 + all_of (map nodes.argument xs) = call_nodes name xs in
+      let m : all_of (map nodes.argument xs) + length (d ∷ us) ≤ length ts = h.fits in
       let l : (rest + spare last) + length vs ≤ length us + 1 = k.fits in
       record { fits = omega arith }
 
@@ -271,11 +277,11 @@ module _ {ts us : List Token} where
   of_variable is_attached name of (Some x) h =
       of_member (Member-F.Member::Variable is_attached name of (Some x)) (member.rolls-Variable is_attached name of (Some x)) h
 
-  pub of_members : (xs : List Member) (initially : Option Block) (process : Option Section) →
-      Taken ts us (all_of (map nodes.member xs) + (if_there (option_map nodes.block initially) +
-      if_there (option_map nodes.process process))) →
-      Taken ts us (nodes.body (roll-Body (record { members = xs; initially = initially; process = process })))
-  of_members xs None None h = of_body (record { members = xs; initially = None; process = None }) h
-  of_members xs None (Some p) h = of_body (record { members = xs; initially = None; process = Some p }) h
-  of_members xs (Some b) None h = of_body (record { members = xs; initially = Some b; process = None }) h
-  of_members xs (Some b) (Some p) h = of_body (record { members = xs; initially = Some b; process = Some p }) h
+  pub of_members : (xs : List Member) (initially process : Option Section) (at : Span) →
+      Taken ts us (all_of (map nodes.member xs) + (if_there (option_map nodes.section initially) +
+      if_there (option_map nodes.section process))) →
+      Taken ts us (nodes.body (roll-Body (record { members = xs; initially = initially; process = process; end_at = at })))
+  of_members xs None None at h = of_body (record { members = xs; initially = None; process = None; end_at = at }) h
+  of_members xs None (Some p) at h = of_body (record { members = xs; initially = None; process = Some p; end_at = at }) h
+  of_members xs (Some b) None at h = of_body (record { members = xs; initially = Some b; process = None; end_at = at }) h
+  of_members xs (Some b) (Some p) at h = of_body (record { members = xs; initially = Some b; process = Some p; end_at = at }) h

@@ -17,7 +17,7 @@ use Rattle.ec_ast.specs.declared.Statement.TheVariants as s
 use Rattle.ec_core_laws.proofs.CoreSizesTextParts.{Taken, arrived, passed, counted, and_then, past, skipped, nodes}
 use Rattle.ec_core_laws.proofs.CoreSizesTextParts.{of_expression, of_member, of_statement, of_addend, of_arm, of_block, of_factor}
 use Rattle.ec_core_laws.proofs.CoreSizesTextParts.{of_local_variable, of_if, of_variable, of_members}
-use Rattle.ec_core_laws.proofs.CoreSizesTextParts.{of_object, of_operation, of_process, or_chain, and_chain, sum_chain, term_chain}
+use Rattle.ec_core_laws.proofs.CoreSizesTextParts.{of_object, of_operation, of_argument, of_section, or_chain, and_chain, sum_chain, term_chain}
 use Rattle.ec_core_laws.proofs.CoreSizesTextParts.{Spared, behind, call_spared, field_spared, index_spared, invocation_taken, none_spared}
 use Rattle.ec_core_laws.proofs.CoreSizesTextParts.{postfix_taken, spare}
 use Rattle.ec_core_laws.specs.Measures.{all_behind, all_of, if_there}
@@ -27,6 +27,7 @@ use Rattle.ec_parser.specs.HasTree.{AreFactors}
 use Rattle.ec_parser.specs.HasTree.{IsSum, AreAddends, IsRel, IsNot, IsAnd, AreNots, IsExpr, AreAnds, IsInitial, IsStmt, AreArms}
 use Rattle.ec_parser.specs.HasTree.{IsElse, IsBlock, IsMember, AreMembers, IsInitially, IsProcess, IsBody, IsObject}
 use Rattle.ec_places.proofs.Skipped.{flag, brackets, type, type_option, params_option, result}
+use Rattle.ec_ast.specs.declared.Argument.{Argument}
 
 -- a primary ends in no call
 no_call : {ts us : List Token} {x : Expression} {last : Ending} → IsPrimary ts us x last → spare last ≡ 0
@@ -78,15 +79,15 @@ mutual
   links (AreLinks.call e f g h i k) = call_spared _ _ (arguments h) (links k)
   links (AreLinks.index may e h f k) = index_spared _ _ (expr h) (links k)
 
-  arguments : {ts us : List Token} {xs : List Expression} → AreArguments ts us xs →
-      Taken ts us (all_of (map nodes.expression xs))
+  arguments : {ts us : List Token} {xs : List Argument} → AreArguments ts us xs →
+      Taken ts us (all_of (map nodes.argument xs))
   arguments AreArguments.no_arguments = arrived
-  arguments (AreArguments.arguments h k) = and_then (expr h) (more_arguments k)
+  arguments (AreArguments.arguments h k) = and_then (of_argument _ (expr h)) (more_arguments k)
 
-  more_arguments : {ts us : List Token} {xs : List Expression} → AreMoreArguments ts us xs →
-      Taken ts us (all_of (map nodes.expression xs))
+  more_arguments : {ts us : List Token} {xs : List Argument} → AreMoreArguments ts us xs →
+      Taken ts us (all_of (map nodes.argument xs))
   more_arguments AreMoreArguments.arguments_end = arrived
-  more_arguments (AreMoreArguments.comma_argument e h k) = passed (and_then (expr h) (more_arguments k))
+  more_arguments (AreMoreArguments.comma_argument e h k) = passed (and_then (of_argument _ (expr h)) (more_arguments k))
 
   -- ---- expressions
 
@@ -192,23 +193,23 @@ mutual
       of_member _ (m.rolls-Operation _)
       (of_operation _
       (behind (skipped (flag is)) (passed (passed (behind (skipped (params_option ps))
-      (behind (skipped (result r)) (past (of_block _ (block h)) (passed (passed arrived)))))))))
+      (behind (skipped (result r)) (and_then (of_block _ (block h)) (passed (passed arrived)))))))))
 
   members : {ts us : List Token} {xs : List Member} → AreMembers ts us xs → Taken ts us (all_of (map nodes.member xs))
   members AreMembers.members_end = arrived
   members (AreMembers.member h k) = and_then (member h) (members k)
 
-  initially : {ts us : List Token} {x : Option Block} → IsInitially ts us x → Taken ts us (if_there (option_map nodes.block x))
+  initially : {ts us : List Token} {x : Option Section} → IsInitially ts us x → Taken ts us (if_there (option_map nodes.section x))
   initially IsInitially.no_initially = arrived
-  initially (IsInitially.initially e h f g) = passed (past (of_block _ (block h)) (passed (passed arrived)))
+  initially (IsInitially.initially e h f g) = passed (past (of_section _ (of_block _ (block h))) (passed (passed arrived)))
 
   process : {ts us : List Token} {x : Option Section} → IsProcess ts us x →
-      Taken ts us (if_there (option_map nodes.process x))
+      Taken ts us (if_there (option_map nodes.section x))
   process IsProcess.no_process = arrived
-  process (IsProcess.process e h f g) = passed (of_process _ (past (of_block _ (block h)) (passed (passed arrived))))
+  process (IsProcess.process e h f g) = passed (past (of_section _ (of_block _ (block h))) (passed (passed arrived)))
 
   pub body : {ts us : List Token} {x : Body} → IsBody ts us x → Taken ts us (nodes.body x)
-  body (IsBody.body h k l) = of_members _ _ _ (and_then (members h) (and_then (initially k) (process l)))
+  body (IsBody.body h k l) = of_members _ _ _ _ (and_then (members h) (and_then (initially k) (process l)))
 
   object : {ts us : List Token} {x : ObjectConstructor} → IsObject ts us x → Taken ts us (nodes.object x)
   object (IsObject.object_constructor is e f h g i) =

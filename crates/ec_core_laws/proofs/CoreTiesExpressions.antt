@@ -89,6 +89,8 @@ ConstructorTied env x o =
 abbrev step_of : ObjectConstructor → ObjectPart
 step_of x = object_step (record {
   at = (out-ObjectConstructor x).at;
+  object_at = (out-ObjectConstructor x).object_at;
+  is_immutable = (out-ObjectConstructor x).is_immutable;
   is_monitored = (out-ObjectConstructor x).is_monitored;
   name = (out-ObjectConstructor x).name;
   body = body_of (out-ObjectConstructor x).body;
@@ -103,7 +105,7 @@ constructor_is env x h r =
           (captured_uses (uses_outside (uses_within env.scope (holder_judged holder))) env r.fit
           (subst (λ s. Every (HeldAt s) (uses_outside (uses_within env.scope (holder_judged holder)))) (outside_body env.scope holder)
           (inner_used env.scope holder (ranged_body (out-ObjectConstructor x).body))) r.reach)),
-      holder_tied env.scope holder.name holder.is_monitored [] holder.end_name (out-ObjectConstructor x).body h r.faultless,
+      holder_tied env.scope holder.name holder.is_immutable holder.is_monitored [] holder.end_name (out-ObjectConstructor x).body h r.faultless,
     )
 
 -- by what the rules see

@@ -79,7 +79,7 @@ module _ (table : Table) (globals : List Global) where
   value_tied number at name of (stands.Class c) cs e t more =
       ties.class
       (subst (λ h. TiedHolder scope h c.body (holder_made scope (class_part c))) (same_class c)
-      (holder_tied scope c.name c.is_monitored c.parameters c.end_name c.body
+      (holder_tied scope c.name c.is_immutable c.is_monitored c.parameters c.end_name c.body
       (trees.body_has PartTied StatementTied BlockTied expression_has statement_has block_has c.body t)
       (subst (λ h. faults_in_holder scope h ≡ []) (sym (same_class c)) (none_left _ _ e))))
       more

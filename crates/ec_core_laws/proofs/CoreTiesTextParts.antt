@@ -25,10 +25,13 @@ use Rattle.ec_core_laws.proofs.AllTargets.{AreTargets, said, rolled}
 use Rattle.ec_core_laws.specs.Targets.{Targets, Part, joined, if_there, all_within, if_within}
 use Rattle.ec_core_laws.specs.Targets.{ends_in_index, is_target, is_index}
 use Rattle.ec_core_laws.specs.Targets.{within_expression, within_link, within_member, within_statement, within_body}
+use Rattle.ec_core_laws.specs.Targets.{steps}
 use Rattle.ec_parser.specs.Chains.{or_of, and_of, sum_of, term_of, postfix_of}
 use Rattle.ec_ast.specs.Kinds.{ExpressionLayer, LinkLayer, MemberLayer, StatementLayer, AddendLayer, ArmLayer}
 use Rattle.ec_ast.specs.Kinds.{BlockLayer, BodyLayer, FactorLayer, ObjectLayer, OperationLayer, SectionLayer}
+use Rattle.ec_ast.specs.Kinds.{ArgumentLayer}
 use Rattle.ec_ast.specs.Layers as layers
+use Rattle.ec_ast.specs.declared.Argument.{roll-Argument}
 
 -- ---- one layer of each kind of part: a variant, by the equation that it is rolled of its layer, and a struct
 
@@ -55,6 +58,10 @@ pub of_addend : (y : AddendLayer) → AreTargets (said.expression y.value).withi
     AreTargets (said.addend (roll-Addend y))
 of_addend y h = subst AreTargets (sym (rolled.addend y)) h
 
+pub of_argument : (y : ArgumentLayer) → AreTargets (said.expression y.value).within →
+    AreTargets (said.argument (roll-Argument y)).within
+of_argument y h = subst (λ (p : Part). AreTargets p.within) (sym (rolled.argument y)) h
+
 pub of_arm : (y : ArmLayer) → AreTargets ((said.expression y.condition).within ++ said.block y.block) →
     AreTargets (said.arm (roll-Arm y))
 of_arm y h = subst AreTargets (sym (rolled.arm y)) h
@@ -74,13 +81,13 @@ of_factor y h = subst AreTargets (sym (rolled.factor y)) h
 pub of_object : (y : ObjectLayer) → AreTargets (said.body y.body) → AreTargets (said.object (roll-ObjectConstructor y))
 of_object y h = subst AreTargets (sym (rolled.object y)) h
 
-pub of_operation : (y : OperationLayer) → AreTargets (said.block y.block) →
+pub of_operation : (y : OperationLayer) → AreTargets (steps.operation (layers.operation_mapped said y)) →
     AreTargets (said.operation (roll-Operation y))
 of_operation y h = subst AreTargets (sym (rolled.operation y)) h
 
-pub of_process : (y : SectionLayer) → AreTargets (said.block y.block) →
-    AreTargets (said.process (roll-Section y))
-of_process y h = subst AreTargets (sym (rolled.process y)) h
+pub of_section : (y : SectionLayer) → AreTargets (said.block y.block) →
+    AreTargets (said.section (roll-Section y))
+of_section y h = subst AreTargets (sym (rolled.section y)) h
 
 -- ---- what is a target
 
@@ -167,12 +174,12 @@ of_variable is_attached name of (Some x) h =
     of_member (Member-F.Member::Variable is_attached name of (Some x))
     (member.rolls-Variable is_attached name of (Some x)) h
 
-pub of_members : (xs : List Member) (initially : Option Block) (process : Option Section) →
+pub of_members : (xs : List Member) (initially process : Option Section) (at : Span) →
     AreTargets
     (joined (map said.member xs)
-    ++ (if_there (option_map said.block initially) ++ if_there (option_map said.process process))) →
-    AreTargets (said.body (roll-Body (record { members = xs; initially = initially; process = process })))
-of_members xs None None h = of_body (record { members = xs; initially = None; process = None }) h
-of_members xs None (Some p) h = of_body (record { members = xs; initially = None; process = Some p }) h
-of_members xs (Some b) None h = of_body (record { members = xs; initially = Some b; process = None }) h
-of_members xs (Some b) (Some p) h = of_body (record { members = xs; initially = Some b; process = Some p }) h
+    ++ (if_there (option_map said.section initially) ++ if_there (option_map said.section process))) →
+    AreTargets (said.body (roll-Body (record { members = xs; initially = initially; process = process; end_at = at })))
+of_members xs None None at h = of_body (record { members = xs; initially = None; process = None; end_at = at }) h
+of_members xs None (Some p) at h = of_body (record { members = xs; initially = None; process = Some p; end_at = at }) h
+of_members xs (Some b) None at h = of_body (record { members = xs; initially = Some b; process = None; end_at = at }) h
+of_members xs (Some b) (Some p) at h = of_body (record { members = xs; initially = Some b; process = Some p; end_at = at }) h

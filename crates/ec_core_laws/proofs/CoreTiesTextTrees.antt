@@ -18,7 +18,7 @@ use Rattle.ec_ast.specs.declared.Statement.TheVariants as s
 use Rattle.ec_base.specs.Stack.{top_of}
 use Rattle.ec_core_laws.proofs.AllTargets.{AreTargets, none, more, both, said}
 use Rattle.ec_core_laws.proofs.CoreTiesTextParts.{of_expression, of_link, of_member, of_statement, of_addend, of_arm, of_block}
-use Rattle.ec_core_laws.proofs.CoreTiesTextParts.{of_factor, of_object, of_operation, of_process, of_local_variable, of_if}
+use Rattle.ec_core_laws.proofs.CoreTiesTextParts.{of_factor, of_object, of_operation, of_argument, of_section, of_local_variable, of_if}
 use Rattle.ec_core_laws.proofs.CoreTiesTextParts.{of_variable, of_members, or_chain, and_chain, sum_chain, term_chain}
 use Rattle.ec_core_laws.proofs.CoreTiesTextParts.{postfix_chain, expression_is, link_is, postfix_is}
 use Rattle.ec_core_laws.specs.Targets.{Part, joined, if_there, all_within, if_within, ends_in_index}
@@ -27,6 +27,7 @@ use Rattle.ec_parser.specs.HasTree.{Ending, IsTarget, IsPrimary, IsPostfix, AreL
 use Rattle.ec_parser.specs.HasTree.{IsUnary, IsTerm, AreFactors, IsSum, AreAddends, IsRel, IsNot, IsAnd, AreNots}
 use Rattle.ec_parser.specs.HasTree.{IsExpr, AreAnds, IsInitial, IsStmt, AreArms, IsElse, IsBlock, IsMember}
 use Rattle.ec_parser.specs.HasTree.{AreMembers, IsInitially, IsProcess, IsBody, IsObject}
+use Rattle.ec_ast.specs.declared.Argument.{Argument}
 
 -- ---- what stands before a `<-`
 
@@ -91,15 +92,15 @@ mutual
   links (AreLinks.call e f g h i k) = both (of_link _ (link.rolls-Call _ _) (arguments h)) (links k)
   links (AreLinks.index may e h f k) = both (of_link _ (link.rolls-Index _ _) (expr h)) (links k)
 
-  arguments : {ts us : List Token} {xs : List Expression} → AreArguments ts us xs →
-      AreTargets (all_within (map said.expression xs))
+  arguments : {ts us : List Token} {xs : List Argument} → AreArguments ts us xs →
+      AreTargets (all_within (map said.argument xs))
   arguments AreArguments.no_arguments = none
-  arguments (AreArguments.arguments h k) = both (expr h) (more_arguments k)
+  arguments (AreArguments.arguments h k) = both (of_argument _ (expr h)) (more_arguments k)
 
-  more_arguments : {ts us : List Token} {xs : List Expression} → AreMoreArguments ts us xs →
-      AreTargets (all_within (map said.expression xs))
+  more_arguments : {ts us : List Token} {xs : List Argument} → AreMoreArguments ts us xs →
+      AreTargets (all_within (map said.argument xs))
   more_arguments AreMoreArguments.arguments_end = none
-  more_arguments (AreMoreArguments.comma_argument e h k) = both (expr h) (more_arguments k)
+  more_arguments (AreMoreArguments.comma_argument e h k) = both (of_argument _ (expr h)) (more_arguments k)
 
   -- ---- expressions
 
@@ -194,24 +195,24 @@ mutual
   member (IsMember.const_member is e f of g h) = of_member _ (m.rolls-Constant _ _ _ _) (expr h)
   member (IsMember.condition e f g i j l h) = of_member _ (m.rolls-Condition _) none
   member (IsMember.operation_member is e f ps r h g i) =
-      of_member _ (m.rolls-Operation _) (of_operation _ (of_block _ (block h)))
+      of_member _ (m.rolls-Operation _) (of_operation _ (both (of_block _ (block h)) none))
 
   members : {ts us : List Token} {xs : List Member} → AreMembers ts us xs → AreTargets (joined (map said.member xs))
   members AreMembers.members_end = none
   members (AreMembers.member h k) = both (member h) (members k)
 
-  initially : {ts us : List Token} {x : Option Block} → IsInitially ts us x →
-      AreTargets (if_there (option_map said.block x))
+  initially : {ts us : List Token} {x : Option Section} → IsInitially ts us x →
+      AreTargets (if_there (option_map said.section x))
   initially IsInitially.no_initially = none
-  initially (IsInitially.initially e h f g) = of_block _ (block h)
+  initially (IsInitially.initially e h f g) = of_section _ (of_block _ (block h))
 
   process : {ts us : List Token} {x : Option Section} → IsProcess ts us x →
-      AreTargets (if_there (option_map said.process x))
+      AreTargets (if_there (option_map said.section x))
   process IsProcess.no_process = none
-  process (IsProcess.process e h f g) = of_process _ (of_block _ (block h))
+  process (IsProcess.process e h f g) = of_section _ (of_block _ (block h))
 
   pub body : {ts us : List Token} {x : Body} → IsBody ts us x → AreTargets (said.body x)
-  body (IsBody.body h k l) = of_members _ _ _ (both (members h) (both (initially k) (process l)))
+  body (IsBody.body h k l) = of_members _ _ _ _ (both (members h) (both (initially k) (process l)))
 
   object : {ts us : List Token} {x : ObjectConstructor} → IsObject ts us x → AreTargets (said.object x)
   object (IsObject.object_constructor is e f h g i) = of_object _ (body h)

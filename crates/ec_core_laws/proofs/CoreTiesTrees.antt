@@ -21,14 +21,19 @@ use Rattle.ec_core_laws.proofs.AllTargets.{AreTargets, first_target, later_targe
 use Rattle.ec_core_laws.proofs.AllTargets.{said, rolled}
 use Rattle.ec_core_laws.specs.Targets.{Targets, Part, joined, all_within}
 use Rattle.ec_core_laws.specs.Targets.{within_expression, within_link, within_member, within_statement, within_body}
+use Rattle.ec_core_laws.specs.Targets.{steps}
 use Rattle.ec_ast.proofs.Claims.{Claims, Passes, Held, trees, expression_holds, body_holds}
 use Rattle.ec_ast.proofs.Claims.{ExpressionWith, LinkWith, MemberWith, StatementWith, AddendWith, ArmWith}
 use Rattle.ec_ast.proofs.Claims.{BlockWith, BodyWith, FactorWith, ObjectWith, OperationWith, SectionWith}
 use Rattle.ec_ast.proofs.Claims.{bare_expression, bare_link, bare_member, bare_statement, bare_addend, bare_arm}
 use Rattle.ec_ast.proofs.Claims.{bare_block, bare_body, bare_factor, bare_object, bare_operation, bare_section}
+use Rattle.ec_ast.proofs.Claims.{ArgumentWith, bare_argument}
 use Rattle.ec_ast.specs.Kinds.{ExpressionLayer, LinkLayer, MemberLayer, StatementLayer, AddendLayer, ArmLayer}
 use Rattle.ec_ast.specs.Kinds.{BlockLayer, BodyLayer, FactorLayer, ObjectLayer, OperationLayer, SectionLayer}
+use Rattle.ec_ast.specs.Kinds.{ArgumentLayer}
 use Rattle.ec_ast.specs.Layers as layers
+use Rattle.ec_ast.specs.declared.Argument.{Argument, roll-Argument, out-Argument, out-roll-Argument}
+use Rattle.ec_ast.specs.declared.Span.{Span}
 
 -- besides, an assignment has a target
 abbrev pub HasTarget : StatementLayer → Type 0
@@ -56,8 +61,11 @@ each_within f P (x ∷ xs) h = (
 module _ (P : Expression → Type 0) (S : Statement → Type 0) (B : Block → Type 0) where
   -- ---- what is held of each kind of part
 
+  abbrev pub TreeArgumentHas : Argument → Type 0
+  TreeArgumentHas x = P (out-Argument x).value
+
   abbrev pub LinkLayerHas : LinkLayer → Type 0
-  LinkLayerHas (Link-F.Call name arguments) = Every P arguments
+  LinkLayerHas (Link-F.Call name arguments) = Every TreeArgumentHas arguments
   LinkLayerHas (Link-F.Index number at) = P number
 
   abbrev pub TreeLinkHas : Link → Type 0
@@ -75,11 +83,14 @@ module _ (P : Expression → Type 0) (S : Statement → Type 0) (B : Block → T
   abbrev pub TreeArmHas : Arm → Type 0
   TreeArmHas x = ArmLayerHas (out-Arm x)
 
-  abbrev pub TreeProcessHas : Section → Type 0
-  TreeProcessHas x = B (out-Section x).block
+  abbrev pub TreeSectionHas : Section → Type 0
+  TreeSectionHas x = B (out-Section x).block
+
+  abbrev pub OperationLayerHas : OperationLayer → Type 0
+  OperationLayerHas o = B o.block × Where TreeSectionHas o.failure
 
   abbrev pub TreeOperationHas : Operation → Type 0
-  TreeOperationHas x = B (out-Operation x).block
+  TreeOperationHas x = OperationLayerHas (out-Operation x)
 
   abbrev pub MemberLayerHas : MemberLayer → Type 0
   MemberLayerHas (Member-F.Member::Variable is_attached name of value) = Where P value
@@ -92,7 +103,7 @@ module _ (P : Expression → Type 0) (S : Statement → Type 0) (B : Block → T
 
   -- its members, the block that runs first, and the process section
   abbrev pub BodyLayerHas : BodyLayer → Type 0
-  BodyLayerHas b = Every TreeMemberHas b.members × Where B b.initially × Where TreeProcessHas b.process
+  BodyLayerHas b = Every TreeMemberHas b.members × Where TreeSectionHas b.initially × Where TreeSectionHas b.process
 
   abbrev pub TreeBodyHas : Body → Type 0
   TreeBodyHas x = BodyLayerHas (out-Body x)
@@ -152,8 +163,8 @@ module _ (P : Expression → Type 0) (S : Statement → Type 0) (B : Block → T
   abbrev MemberClaim : Member → Type 0
   MemberClaim x = AreTargets (said.member x) → TreeMemberHas x
 
-  abbrev ProcessClaim : Section → Type 0
-  ProcessClaim x = AreTargets (said.process x) → TreeProcessHas x
+  abbrev SectionClaim : Section → Type 0
+  SectionClaim x = AreTargets (said.section x) → TreeSectionHas x
 
   abbrev claims : Claims
   claims = record {
@@ -162,13 +173,14 @@ module _ (P : Expression → Type 0) (S : Statement → Type 0) (B : Block → T
     member = MemberClaim;
     statement = λ x. AreTargets (said.statement x) → S x;
     addend = λ x. AreTargets (said.addend x) → TreeAddendHas x;
+    argument = λ x. AreTargets (said.argument x).within → TreeArgumentHas x;
     arm = λ x. AreTargets (said.arm x) → TreeArmHas x;
     block = BlockClaim;
     body = λ x. AreTargets (said.body x) → TreeBodyHas x;
     factor = λ x. AreTargets (said.factor x) → TreeFactorHas x;
     object = λ x. AreTargets (said.object x) → TreeObjectHas x;
     operation = λ x. AreTargets (said.operation x) → TreeOperationHas x;
-    section = ProcessClaim;
+    section = SectionClaim;
   }
 
   -- ---- the induction, by what a layer has
@@ -275,7 +287,7 @@ module _ (P : Expression → Type 0) (S : Statement → Type 0) (B : Block → T
 
     link_parts_are : (y : LinkWith claims) → AreTargets (within_link (layers.link_mapped said (bare_link claims y))) →
         LinkLayerHas (bare_link claims y)
-    link_parts_are (Link-F.Call name xs) h = each_within said.expression P xs h
+    link_parts_are (Link-F.Call name xs) h = each_within said.argument TreeArgumentHas xs h
     link_parts_are (Link-F.Index x at) h = x.1 h
 
     link_at : (y : LinkWith claims) → claims.link (roll-Link (bare_link claims y))
@@ -302,6 +314,11 @@ module _ (P : Expression → Type 0) (S : Statement → Type 0) (B : Block → T
         subst (λ (z : AddendLayer). P z.value) (sym (out-roll-Addend (bare_addend claims y)))
         (y.value.1 (subst AreTargets (rolled.addend (bare_addend claims y)) h))
 
+    argument_at : (y : ArgumentWith claims) → claims.argument (roll-Argument (bare_argument claims y))
+    argument_at y h =
+        subst (λ (z : ArgumentLayer). P z.value) (sym (out-roll-Argument (bare_argument claims y)))
+        (y.value.1 (subst (λ (p : Part). AreTargets p.within) (rolled.argument (bare_argument claims y)) h))
+
     member_parts_are : (y : MemberWith claims) →
         AreTargets (within_member (layers.member_mapped said (bare_member claims y))) →
         MemberLayerHas (bare_member claims y)
@@ -316,19 +333,32 @@ module _ (P : Expression → Type 0) (S : Statement → Type 0) (B : Block → T
         subst MemberLayerHas (sym (out-roll-Member (bare_member claims y)))
         (member_parts_are y (subst AreTargets (rolled.member (bare_member claims y)) h))
 
+    abbrev with_failure : OperationWith claims → Option (Held SectionClaim) → OperationWith claims
+    with_failure y failure = record y { failure = failure }
+
+    -- its block, and its clause
+    operation_parts_are : (y : OperationWith claims) (failure : Option (Held SectionClaim)) →
+        AreTargets (steps.operation (layers.operation_mapped said (bare_operation claims (with_failure y failure)))) →
+        OperationLayerHas (bare_operation claims (with_failure y failure))
+    operation_parts_are y None h = (y.block.1 (left_targets (said.block y.block.0) [] h), tt)
+    operation_parts_are y (Some f) h = (
+      y.block.1 (left_targets (said.block y.block.0) (said.section f.0) h),
+      f.1 (right_targets (said.block y.block.0) (said.section f.0) h),
+    )
+
     operation_at : (y : OperationWith claims) → claims.operation (roll-Operation (bare_operation claims y))
     operation_at y h =
-        subst (λ (z : OperationLayer). B z.block) (sym (out-roll-Operation (bare_operation claims y)))
-        (y.block.1 (subst AreTargets (rolled.operation (bare_operation claims y)) h))
+        subst OperationLayerHas (sym (out-roll-Operation (bare_operation claims y)))
+        (operation_parts_are y y.failure (subst AreTargets (rolled.operation (bare_operation claims y)) h))
 
-    process_at : (y : SectionWith claims) → claims.process (roll-Section (bare_section claims y))
-    process_at y h =
+    section_at : (y : SectionWith claims) → claims.section (roll-Section (bare_section claims y))
+    section_at y h =
         subst (λ (z : SectionLayer). B z.block) (sym (out-roll-Section (bare_section claims y)))
-        (y.block.1 (subst AreTargets (rolled.process (bare_section claims y)) h))
+        (y.block.1 (subst AreTargets (rolled.section (bare_section claims y)) h))
 
-    abbrev body_layer : List (Held MemberClaim) → Option (Held BlockClaim) → Option (Held ProcessClaim) →
+    abbrev body_layer : List (Held MemberClaim) → Option (Held SectionClaim) → Option (Held SectionClaim) → Span →
         BodyWith claims
-    body_layer ms i p = record { members = ms; initially = i; process = p }
+    body_layer ms i p at = record { members = ms; initially = i; process = p; end_at = at }
 
     abbrev in_members : List (Held MemberClaim) → Targets
     in_members ms = joined (map said.member (trees ms))
@@ -337,29 +367,29 @@ module _ (P : Expression → Type 0) (S : Statement → Type 0) (B : Block → T
         Every TreeMemberHas (trees ms)
     members_have ms more h = each_held said.member TreeMemberHas ms (left_targets (in_members ms) more h)
 
-    body_parts_are : (ms : List (Held MemberClaim)) (i : Option (Held BlockClaim)) (p : Option (Held ProcessClaim)) →
-        AreTargets (within_body (layers.body_mapped said (bare_body claims (body_layer ms i p)))) →
-        BodyLayerHas (bare_body claims (body_layer ms i p))
-    body_parts_are ms None None h = (members_have ms [] h, tt, tt)
-    body_parts_are ms None (Some p) h =
-        (members_have ms (said.process p.0) h, tt, p.1 (right_targets (in_members ms) (said.process p.0) h))
-    body_parts_are ms (Some i) None h = (
-      members_have ms (said.block i.0 ++ []) h,
-      i.1 (left_targets (said.block i.0) [] (right_targets (in_members ms) (said.block i.0 ++ []) h)),
+    body_parts_are : (ms : List (Held MemberClaim)) (i p : Option (Held SectionClaim)) (at : Span) →
+        AreTargets (within_body (layers.body_mapped said (bare_body claims (body_layer ms i p at)))) →
+        BodyLayerHas (bare_body claims (body_layer ms i p at))
+    body_parts_are ms None None at h = (members_have ms [] h, tt, tt)
+    body_parts_are ms None (Some p) at h =
+        (members_have ms (said.section p.0) h, tt, p.1 (right_targets (in_members ms) (said.section p.0) h))
+    body_parts_are ms (Some i) None at h = (
+      members_have ms (said.section i.0 ++ []) h,
+      i.1 (left_targets (said.section i.0) [] (right_targets (in_members ms) (said.section i.0 ++ []) h)),
       tt,
     )
-    body_parts_are ms (Some i) (Some p) h =
-        let inner : AreTargets (said.block i.0 ++ said.process p.0) =
-        right_targets (in_members ms) (said.block i.0 ++ said.process p.0) h in (
-          members_have ms (said.block i.0 ++ said.process p.0) h,
-          i.1 (left_targets (said.block i.0) (said.process p.0) inner),
-          p.1 (right_targets (said.block i.0) (said.process p.0) inner),
+    body_parts_are ms (Some i) (Some p) at h =
+        let inner : AreTargets (said.section i.0 ++ said.section p.0) =
+        right_targets (in_members ms) (said.section i.0 ++ said.section p.0) h in (
+          members_have ms (said.section i.0 ++ said.section p.0) h,
+          i.1 (left_targets (said.section i.0) (said.section p.0) inner),
+          p.1 (right_targets (said.section i.0) (said.section p.0) inner),
         )
 
     body_at : (y : BodyWith claims) → claims.body (roll-Body (bare_body claims y))
     body_at y h =
         subst BodyLayerHas (sym (out-roll-Body (bare_body claims y)))
-        (body_parts_are y.members y.initially y.process (subst AreTargets (rolled.body (bare_body claims y)) h))
+        (body_parts_are y.members y.initially y.process y.end_at (subst AreTargets (rolled.body (bare_body claims y)) h))
 
     object_at : (y : ObjectWith claims) → claims.object (roll-ObjectConstructor (bare_object claims y))
     object_at y h =
@@ -373,13 +403,14 @@ module _ (P : Expression → Type 0) (S : Statement → Type 0) (B : Block → T
       member = member_at;
       statement = statement_at;
       addend = addend_at;
+      argument = argument_at;
       arm = arm_at;
       block = block_at;
       body = body_at;
       factor = factor_at;
       object = object_at;
       operation = operation_at;
-      section = process_at;
+      section = section_at;
     }
 
     pub part_has : (x : Expression) → AreTargets (said.expression x).within → P x

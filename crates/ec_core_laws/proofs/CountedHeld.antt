@@ -13,12 +13,15 @@ use Rattle.ec_ast.specs.declared.Operation.{Operation}
 use Rattle.ec_ast.specs.declared.Section.{Section}
 use Rattle.ec_places.proofs.DeclaredRolled.{in_operation}
 use Rattle.ec_core_laws.proofs.CountedKinds.{CountedPart, CountedLink, CountedMember, CountedStatement, CountedAddend, CountedArm}
-use Rattle.ec_core_laws.proofs.CountedKinds.{CountedPiece, CountedBody, CountedFactor, CountedObject, CountedOperation, CountedProcess}
+use Rattle.ec_core_laws.proofs.CountedKinds.{CountedPiece, CountedBody, CountedFactor, CountedObject, CountedOperation, CountedSection}
 use Rattle.ec_check.specs.Tree.{part_of, link_of, member_of, statement_of, addend_of, arm_of, block_of, body_of, factor_of}
 use Rattle.ec_check.specs.Tree.{object_of, operation_of, section_of}
+use Rattle.ec_check.specs.Tree.{argument_of}
 use Rattle.ec_types.specs.Declarations.{in_expression, in_link, in_member, in_statement, in_addend, in_arm, in_block, in_body}
-use Rattle.ec_types.specs.Declarations.{in_factor, in_constructor, in_process}
+use Rattle.ec_types.specs.Declarations.{in_factor, in_constructor, in_section}
+use Rattle.ec_types.specs.Declarations.{in_argument}
 use Rattle.ec_ast.proofs.Claims.{Claims}
+use Rattle.ec_ast.specs.declared.Argument.{Argument}
 
 -- ---- each kind of part
 
@@ -36,6 +39,9 @@ IsCountedStatement x = CountedStatement (statement_of x) (in_statement x)
 
 abbrev pub IsCountedAddend : Addend → Type 0
 IsCountedAddend x = CountedAddend (addend_of x) (in_addend x)
+
+abbrev pub IsCountedArgument : Argument → Type 0
+IsCountedArgument x = CountedPart (argument_of x).value (in_argument x)
 
 abbrev pub IsCountedArm : Arm → Type 0
 IsCountedArm x = CountedArm (arm_of x) (in_arm x)
@@ -55,8 +61,8 @@ IsCountedObject x = CountedObject (object_of x) (in_constructor x)
 abbrev pub IsCountedOperation : Operation → Type 0
 IsCountedOperation x = CountedOperation (operation_of x) (in_operation x)
 
-abbrev pub IsCountedProcess : Section → Type 0
-IsCountedProcess x = CountedProcess (section_of x) (in_process x)
+abbrev pub IsCountedSection : Section → Type 0
+IsCountedSection x = CountedSection (section_of x) (in_section x)
 
 -- what is claimed of a part of each kind
 abbrev pub counted : Claims
@@ -66,11 +72,12 @@ counted = record {
   member = IsCountedMember;
   statement = IsCountedStatement;
   addend = IsCountedAddend;
+  argument = IsCountedArgument;
   arm = IsCountedArm;
   block = IsCountedBlock;
   body = IsCountedBody;
   factor = IsCountedFactor;
   object = IsCountedObject;
   operation = IsCountedOperation;
-  section = IsCountedProcess;
+  section = IsCountedSection;
 }

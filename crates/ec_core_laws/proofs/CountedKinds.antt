@@ -13,11 +13,14 @@ use Rattle.ec_check.specs.Parts.{arm_judged, section_judged, member_judged, hold
 use Rattle.ec_check.specs.Places.{Env}
 use Rattle.ec_check.specs.Resolving.{all_made, member_made, members_made, initially_made, process_made, holder_made, link_parts}
 use Rattle.ec_check.specs.Resolving.{parts_of_links, chain_parts, parts_of_chain}
+use Rattle.ec_check.specs.Resolving.{process_operation}
 use Rattle.ec_types.specs.Declarations as conform
 use Rattle.ec_types.specs.Declarations.{both, joined, nothing, within_members}
+use Rattle.ec_types.specs.Declarations.{operation_at}
 use Rattle.ec_types.specs.declared.conform.declared.Declarations.{Declarations}
 use Rattle.ec_types.specs.declared.conform.static_type.StaticType.{StaticType}
 use Rattle.ec_core_laws.proofs.CountedParts.{Counted, nothing_counted, counted_within, both_counted}
+use Rattle.ec_core_laws.proofs.CountedParts.{operation_counted}
 use Rattle.ec_rules.specs.Calls.{Receiver, class_created, receiver_if, is_creation, faults_of_head, chain_faults}
 use Rattle.ec_rules.specs.Forms.{Form, Literal, Negated, Constructor, Vector, Created, Itself, NameAlone, Other}
 use Rattle.ec_rules.specs.Judging.{member_finished, members_finished, finished_if, process_finished, faults_in_holder}
@@ -27,6 +30,7 @@ use Rattle.ec_rules.specs.Parts.{faults_in, value_in}
 use Rattle.ec_rules.specs.Statements.{piece_of_arm}
 use Rattle.ec_rules.specs.declared.StaticFault.{StaticFault}
 use Rattle.ec_types.specs.Scopes.{class_named}
+use Rattle.ec_types.specs.Scopes.{in_a_process}
 use Rattle.ec_types.specs.declared.scopes.scope.Scope.{Scope}
 
 -- ---- each kind of part
@@ -55,9 +59,23 @@ CountedArm a d = (scope : Scope) →
     Counted scope.table (both_made (a.condition.made scope) (a.block.made scope)) d
     (piece_of_arm (arm_judged a) scope).faults
 
-abbrev pub CountedProcess : SectionPart → Declarations → Type 0
-CountedProcess p d = (class : ℕ) (env : Env) (name : Name) →
-    Counted env.scope.table (process_made class env name (Some p)) d (process_finished env.scope (Some (section_judged p))).faults
+-- a section, with where it is and what is made in its block
+pub record CountedSection (p : SectionPart) (d : conform.SectionPart) : Type 0 where
+  pub at : p.at ≡ d.at
+  pub block : CountedPiece p.block d.within
+
+-- made of a process section at its word
+pub process_counted : {p : SectionPart} {d : conform.SectionPart} → CountedSection p d → (class : ℕ) (env : Env) (name : Name) →
+    Counted env.scope.table (process_made class env name (Some p)) (operation_at d.at d.within)
+    (process_finished env.scope (Some (section_judged p))).faults
+process_counted {p} {d} h class env name =
+    subst
+    (λ at.
+    Counted env.scope.table (process_made class env name (Some p)) (operation_at at d.within)
+    (process_finished env.scope (Some (section_judged p))).faults)
+    h.at
+    (operation_counted (process_operation class env name p) p.at (λ e. none_left _ _ e) (λ e. none_right _ _ (none_right _ _ e))
+    (h.block (in_a_process env.scope)))
 
 abbrev pub CountedMember : MemberPart → conform.MemberPart → Type 0
 CountedMember m d = (class : ℕ) (env : Env) (is_monitored : Bool) →

@@ -1,5 +1,6 @@
 -- How much is made within a part of a tree, by what it declares: one induction over all kinds of parts.
 use Rattle.std.proofs.Common.{◌≡◌, Bool, true, false, List, [], ◌∷◌, ◌++◌, map, Option, Some, None, refl, sym, ◌∙◌, subst}
+use Rattle.std.proofs.Common.{option_map}
 use Rattle.ec_ast.specs.declared.Expression.{Expression, roll-Expression}
 use Rattle.ec_ast.specs.declared.Link.{roll-Link}
 use Rattle.ec_ast.specs.declared.Member.{roll-Member}
@@ -23,23 +24,28 @@ use Rattle.ec_check.proofs.Rolled.{expression_mapped, link_mapped, member_mapped
 use Rattle.ec_check.proofs.Rolled.{body_mapped, factor_mapped, object_mapped, operation_mapped, section_mapped}
 use Rattle.ec_check.proofs.Rolled.{part_rolled, link_rolled, member_rolled, statement_rolled, addend_rolled, arm_rolled, block_rolled}
 use Rattle.ec_check.proofs.Rolled.{body_rolled, factor_rolled, object_rolled, operation_rolled, section_rolled}
+use Rattle.ec_check.proofs.Rolled.{argument_rolled}
 use Rattle.ec_check.specs.Layers.{expression_judged, statement_judged}
-use Rattle.ec_check.specs.Parts.{ArmPart, OperationPart, SectionPart, StatementPart, both_made, arm_judged, operation_judged}
-use Rattle.ec_check.specs.Resolving.{expression_made, statement_made, statements_made, arms_made, operation_core, process_operation}
+use Rattle.ec_check.specs.Parts.{ArmPart, OperationPart, StatementPart, both_made, arm_judged, operation_judged}
+use Rattle.ec_check.specs.Parts.{values_of}
+use Rattle.ec_check.specs.Resolving.{expression_made, statement_made, statements_made, arms_made, operation_core, blocks_made}
 use Rattle.ec_check.specs.Tree.{expression_step, link_step, member_step, statement_step, addend_step, arm_step, block_step, body_step}
 use Rattle.ec_check.specs.Tree.{factor_step, object_step, operation_step, section_step}
 use Rattle.ec_check.specs.Tree.{part_of, link_of, member_of, statement_of, addend_of, arm_of, block_of, factor_of}
+use Rattle.ec_check.specs.Tree.{argument_of}
 use Rattle.ec_types.specs.Declarations as conform
 use Rattle.ec_types.specs.Declarations.{both, joined, nothing, in_expression, in_link, in_member, in_statement, in_addend, in_arm}
-use Rattle.ec_types.specs.Declarations.{in_block, in_body, in_factor, in_constructor, in_process}
+use Rattle.ec_types.specs.Declarations.{in_block, in_body, in_factor, in_constructor, in_section, in_argument, operation_at}
 use Rattle.ec_types.specs.declared.conform.declared.Declarations.{Declarations}
 use Rattle.ec_core_laws.proofs.CountedHeld.{IsCountedPart, IsCountedLink, IsCountedMember, IsCountedStatement, IsCountedAddend}
 use Rattle.ec_core_laws.proofs.CountedHeld.{IsCountedArm, IsCountedBlock, IsCountedBody, IsCountedFactor, IsCountedObject}
-use Rattle.ec_core_laws.proofs.CountedHeld.{IsCountedOperation, IsCountedProcess, counted}
+use Rattle.ec_core_laws.proofs.CountedHeld.{IsCountedOperation, IsCountedSection, counted}
+use Rattle.ec_core_laws.proofs.CountedHeld.{IsCountedArgument}
 use Rattle.ec_core_laws.proofs.CountedHolders.{holder_counted}
 use Rattle.ec_core_laws.proofs.CountedKinds.{CountedPart, CountedLink, CountedMember, CountedStatement, CountedAddend, CountedArm}
-use Rattle.ec_core_laws.proofs.CountedKinds.{CountedPiece, CountedBody, CountedFactor, CountedObject, CountedOperation, CountedProcess}
+use Rattle.ec_core_laws.proofs.CountedKinds.{CountedPiece, CountedBody, CountedFactor, CountedObject, CountedOperation, CountedSection}
 use Rattle.ec_core_laws.proofs.CountedKinds.{parts_counted, factors_counted, addends_counted, postfix_counted}
+use Rattle.ec_core_laws.proofs.CountedKinds.{process_counted}
 use Rattle.ec_core_laws.proofs.CountedParts.{Counted, OperationFits, nothing_counted, counted_within, one_counted, both_counted}
 use Rattle.ec_core_laws.proofs.CountedParts.{operation_counted}
 use Rattle.ec_places.proofs.DeclaredRolled.{expression_declared, link_declared, member_declared, statement_declared, addend_declared}
@@ -48,7 +54,9 @@ use Rattle.ec_places.proofs.DeclaredRolled.{operation_declared, section_declared
 use Rattle.ec_places.proofs.DeclaredRolled.{expression_declares, link_declares, member_declares, statement_declares, addend_declares}
 use Rattle.ec_places.proofs.DeclaredRolled.{arm_declares, block_declares, body_declares, factor_declares, object_declares}
 use Rattle.ec_places.proofs.DeclaredRolled.{operation_declares, section_declares, in_operation}
+use Rattle.ec_places.proofs.DeclaredRolled.{argument_declares}
 use Rattle.ec_rules.specs.Judging.{expression_part, statement_part, faults_of, statement_finished, block_finished, operation_faults}
+use Rattle.ec_rules.specs.Judging.{blocks_finished}
 use Rattle.ec_rules.specs.Limits.{many_operations, many_parameters, measured, too_large, variables_of}
 use Rattle.ec_rules.specs.Lists.{each}
 use Rattle.ec_rules.specs.Members.{scope_of_operation}
@@ -57,11 +65,14 @@ use Rattle.ec_rules.specs.Parts.{faults_in}
 use Rattle.ec_rules.specs.Statements.{piece_of_arm}
 use Rattle.ec_rules.specs.declared.StaticFault.{StaticFault}
 use Rattle.ec_types.specs.declared.scopes.scope.Scope.{Scope}
-use Rattle.ec_types.specs.Scopes.{declaring, in_a_loop, in_a_process}
+use Rattle.ec_types.specs.Scopes.{declaring, in_a_loop}
 use Rattle.ec_ast.proofs.Claims.{Passes, Held, trees, ExpressionWith, LinkWith, MemberWith, StatementWith, AddendWith, ArmWith}
 use Rattle.ec_ast.proofs.Claims.{BlockWith, BodyWith, FactorWith, ObjectWith, OperationWith, SectionWith, bare_expression}
 use Rattle.ec_ast.proofs.Claims.{bare_link, bare_member, bare_statement, bare_addend, bare_arm, bare_block, bare_body, bare_factor}
 use Rattle.ec_ast.proofs.Claims.{bare_object, bare_operation, bare_section, expression_holds, body_holds}
+use Rattle.ec_ast.proofs.Claims.{ArgumentWith, bare_argument}
+use Rattle.ec_ast.specs.declared.Argument.{roll-Argument}
+use Rattle.ec_ast.specs.declared.Span.{Span}
 
 -- ---- expressions
 
@@ -263,10 +274,21 @@ block_at y =
 
 -- ---- links, factors and addends
 
+argument_pairs : (xs : List (Held IsCountedArgument)) →
+    EveryPair CountedPart (values_of (map argument_of (trees xs))) (map in_argument (trees xs))
+argument_pairs [] = tt
+argument_pairs (x ∷ xs) = (x.1, argument_pairs xs)
+
+argument_at : (y : ArgumentWith counted) → IsCountedArgument (roll-Argument (bare_argument counted y))
+argument_at y =
+    subst (λ a. CountedPart a.value (in_argument (roll-Argument (bare_argument counted y))))
+    (sym (argument_rolled (bare_argument counted y)))
+    (subst (CountedPart (part_of y.value.0)) (sym (argument_declares (bare_argument counted y))) y.value.1)
+
 link_is : (y : LinkWith counted) →
     CountedLink (link_step (link_mapped (bare_link counted y))) (conform.link_step (link_declared (bare_link counted y)))
 link_is (Link-F.Call name xs) = λ scope.
-    parts_counted scope (map part_of (trees xs)) (map in_expression (trees xs)) (pairs xs)
+    parts_counted scope (values_of (map argument_of (trees xs))) (map in_argument (trees xs)) (argument_pairs xs)
 link_is (Link-F.Index x at) = λ scope. one_counted (λ e. none_left _ _ e) (x.1 true scope)
 
 link_at : (y : LinkWith counted) → IsCountedLink (roll-Link (bare_link counted y))
@@ -320,16 +342,39 @@ operation_fits scope o block e =
     (none_right (many_parameters o.parameters) (measured scope.table o.name.at (variables_of o) block.done)
     (none_right _ _ (none_right _ _ (none_right block.faults _ e))))
 
+abbrev with_failure : OperationWith counted → Option (Held IsCountedSection) → OperationWith counted
+with_failure y failure = record y { failure = failure }
+
+abbrev operation_part : OperationWith counted → Option (Held IsCountedSection) → OperationPart
+operation_part y failure = operation_step (operation_mapped (bare_operation counted (with_failure y failure)))
+
+-- what is made in its block and in its failure clause
+clause_counted : (y : OperationWith counted) (failure : Option (Held IsCountedSection)) (scope : Scope) →
+    Counted scope.table (blocks_made scope (operation_part y failure))
+    (both (in_block y.block.0) (conform.in_clause (option_map in_section (option_map (λ c. c.0) failure))))
+    (blocks_finished scope (operation_judged (operation_part y failure))).faults
+clause_counted y None scope = both_counted (y.block.1 scope) nothing_counted
+clause_counted y (Some c) scope = both_counted (y.block.1 scope) (c.1.block scope)
+
+clauses_are : (y : OperationWith counted) (failure : Option (Held IsCountedSection)) →
+    CountedOperation (operation_part y failure) (conform.operation_step (operation_declared (bare_operation counted (with_failure y failure))))
+clauses_are y None = λ class env is_monitored.
+    let o : OperationPart = operation_part y None in
+    let inner : Scope = scope_of_operation env.scope (operation_judged o) in
+    operation_counted (operation_core class env o) o.name.at (λ e. none_left _ _ (none_left _ _ e))
+    (λ e. operation_fits env.scope (operation_judged o) (blocks_finished inner (operation_judged o)) (none_left _ _ e))
+    (clause_counted y None inner)
+clauses_are y (Some c) = λ class env is_monitored.
+    let o : OperationPart = operation_part y (Some c) in
+    let inner : Scope = scope_of_operation env.scope (operation_judged o) in
+    operation_counted (operation_core class env o) o.name.at (λ e. none_left _ _ (none_left _ _ e))
+    (λ e. operation_fits env.scope (operation_judged o) (blocks_finished inner (operation_judged o)) (none_left _ _ e))
+    (clause_counted y (Some c) inner)
+
 operation_is : (y : OperationWith counted) →
     CountedOperation (operation_step (operation_mapped (bare_operation counted y)))
     (conform.operation_step (operation_declared (bare_operation counted y)))
-operation_is y = λ class env is_monitored.
-    let o : OperationPart = operation_step (operation_mapped (bare_operation counted y)) in
-    operation_counted (operation_core class env o) o.name.at (λ e. none_left _ _ (none_left _ _ e))
-    (λ e.
-    operation_fits env.scope (operation_judged o) (o.block.piece (scope_of_operation env.scope (operation_judged o)))
-    (none_left _ _ e))
-    (y.block.1 (scope_of_operation env.scope (operation_judged o)))
+operation_is y = clauses_are y y.failure
 
 operation_at : (y : OperationWith counted) → IsCountedOperation (roll-Operation (bare_operation counted y))
 operation_at y =
@@ -340,32 +385,29 @@ operation_at y =
 
 -- ---- bodies
 
--- made of a process section at its word
-process_is : (y : SectionWith counted) →
-    CountedProcess (section_step (section_mapped (bare_section counted y)))
+section_is : (y : SectionWith counted) →
+    CountedSection (section_step (section_mapped (bare_section counted y)))
     (conform.section_step (section_declared (bare_section counted y)))
-process_is y = λ class env name.
-    let p : SectionPart = section_step (section_mapped (bare_section counted y)) in
-    operation_counted (process_operation class env name p) p.at (λ e. none_left _ _ e)
-    (λ e. none_right _ _ (none_right _ _ e)) (y.block.1 (in_a_process env.scope))
+section_is y = record { at = refl; block = y.block.1 }
 
-process_at : (y : SectionWith counted) → IsCountedProcess (roll-Section (bare_section counted y))
-process_at y =
-    subst (λ x. CountedProcess x (in_process (roll-Section (bare_section counted y))))
+section_at : (y : SectionWith counted) → IsCountedSection (roll-Section (bare_section counted y))
+section_at y =
+    subst (λ x. CountedSection x (in_section (roll-Section (bare_section counted y))))
     (sym (section_rolled (bare_section counted y)))
-    (subst (CountedProcess (section_step (section_mapped (bare_section counted y)))) (sym (section_declares (bare_section counted y)))
-    (process_is y))
+    (subst (CountedSection (section_step (section_mapped (bare_section counted y)))) (sym (section_declares (bare_section counted y)))
+    (section_is y))
 
-abbrev body_layer : List (Held IsCountedMember) → Option (Held IsCountedBlock) → Option (Held IsCountedProcess) → BodyWith counted
-body_layer ms i p = record { members = ms; initially = i; process = p }
+abbrev body_layer : List (Held IsCountedMember) → Option (Held IsCountedSection) → Option (Held IsCountedSection) → Span →
+    BodyWith counted
+body_layer ms i p at = record { members = ms; initially = i; process = p; end_at = at }
 
 member_pairs : (ms : List (Held IsCountedMember)) → EveryPair CountedMember (map member_of (trees ms)) (map in_member (trees ms))
 member_pairs = each_pair member_of in_member IsCountedMember CountedMember (λ x q. q)
 
-body_is : (ms : List (Held IsCountedMember)) (i : Option (Held IsCountedBlock)) (p : Option (Held IsCountedProcess)) →
-    CountedBody (body_step (body_mapped (bare_body counted (body_layer ms i p))))
-    (conform.body_step (body_declared (bare_body counted (body_layer ms i p))))
-body_is ms None None = record {
+body_is : (ms : List (Held IsCountedMember)) (i p : Option (Held IsCountedSection)) (at : Span) →
+    CountedBody (body_step (body_mapped (bare_body counted (body_layer ms i p at))))
+    (conform.body_step (body_declared (bare_body counted (body_layer ms i p at))))
+body_is ms None None at = record {
   first = nothing;
   last = nothing;
   within = refl;
@@ -373,36 +415,36 @@ body_is ms None None = record {
   initially = λ scope. nothing_counted;
   process = λ class env name. nothing_counted;
 }
-body_is ms None (Some p) = record {
+body_is ms None (Some p) at = record {
   first = nothing;
-  last = in_process p.0;
+  last = operation_at (in_section p.0).at (in_section p.0).within;
   within = refl;
   members = member_pairs ms;
   initially = λ scope. nothing_counted;
-  process = p.1;
+  process = process_counted p.1;
 }
-body_is ms (Some i) None = record {
-  first = in_block i.0;
+body_is ms (Some i) None at = record {
+  first = (in_section i.0).within;
   last = nothing;
   within = refl;
   members = member_pairs ms;
-  initially = i.1;
+  initially = i.1.block;
   process = λ class env name. nothing_counted;
 }
-body_is ms (Some i) (Some p) = record {
-  first = in_block i.0;
-  last = in_process p.0;
+body_is ms (Some i) (Some p) at = record {
+  first = (in_section i.0).within;
+  last = operation_at (in_section p.0).at (in_section p.0).within;
   within = refl;
   members = member_pairs ms;
-  initially = i.1;
-  process = p.1;
+  initially = i.1.block;
+  process = process_counted p.1;
 }
 
 body_at : (y : BodyWith counted) → IsCountedBody (roll-Body (bare_body counted y))
 body_at y =
     subst (λ x. CountedBody x (in_body (roll-Body (bare_body counted y)))) (sym (body_rolled (bare_body counted y)))
     (subst (CountedBody (body_step (body_mapped (bare_body counted y)))) (sym (body_declares (bare_body counted y)))
-    (body_is y.members y.initially y.process))
+    (body_is y.members y.initially y.process y.end_at))
 
 -- ---- object constructors
 
@@ -427,13 +469,14 @@ passes = record {
   member = member_at;
   statement = statement_at;
   addend = addend_at;
+  argument = argument_at;
   arm = arm_at;
   block = block_at;
   body = body_at;
   factor = factor_at;
   object = object_at;
   operation = operation_at;
-  section = process_at;
+  section = section_at;
 }
 
 pub counted_part : (x : Expression) → IsCountedPart x

@@ -288,7 +288,7 @@ pub each_exit_stands : (table : Table) (program : Program) → IsTable (declarat
 each_exit_stands table program is none =
     each_operation table program (λ o. leaves_block o.block ≡ false) is none
     (record {
-      named = λ scope h known o tree e.
+      named = λ scope h known o tree clause e.
           piece_stays o.block tree (env_of_operation (env_of_body scope h) o)
           (loop_declared (heading_entries (scope_in scope h) o.parameters o.result) (scope_in scope h) (no_loop scope h))
           (block_faultless scope h o e);

@@ -29,6 +29,7 @@ use Rattle.ec_rules.specs.Rules.{fault, fault_if}
 use Rattle.ec_rules.specs.declared.Rule.{Rule}
 use Rattle.ec_rules.specs.declared.Rule.TheVariants.{ManyFields, ManyParameters}
 use Rattle.ec_types.specs.declared.scopes.scope.Scope.{Scope}
+use Rattle.ec_core_laws.proofs.Bodies.{blocks_of}
 
 none_breaks : (b : Bool) (rule : Rule) (at : Span) → fault_if b rule at ≡ [] → b ≡ false
 none_breaks true rule at e = cc
@@ -44,21 +45,20 @@ few_beyond (suc n) (p ∷ ps) e = let l : length ps ≤ n = few_beyond n ps e in
 
 named_has_few : (scope : Scope) (h : Holder) (o : OperationPart) → OperationFaultless scope h o → HasFewParameters (named_of scope h o)
 named_has_few scope h o e =
-    let within : operation_faults (scope_in scope h) (operation_judged o)
-    (o.block.piece (scope_of_operation (scope_in scope h) (operation_judged o))) ≡ [] =
+    let within : operation_faults (scope_in scope h) (operation_judged o) (blocks_of scope h o) ≡ [] =
     none_left _ (member_faults (scope_in scope h) h.is_monitored (judged.operation (operation_judged o))) e in
     few_beyond 16 o.parameters
     (none_left (many_parameters o.parameters) _
     (none_right (end_of_operation (operation_judged o)) _
     (none_right (doubled_in_operation (operation_judged o)) _
-    (none_right (o.block.piece (scope_of_operation (scope_in scope h) (operation_judged o))).faults _ within))))
+    (none_right (blocks_of scope h o).faults _ within))))
 
 pub each_has_few_parameters : (table : Table) (program : Program) → IsTable (declarations_of program) table →
     StaticFaults table program ≡ [] → All HasFewParameters (core_of table program).operations
 each_has_few_parameters table program is none =
     each_operation table program HasFewParameters is none
     (record {
-      named = λ scope h known o tree e. named_has_few scope h o e;
+      named = λ scope h known o tree clause e. named_has_few scope h o e;
       first = λ scope h known. omega arith;
       process = λ scope h known p tree e. omega arith;
     })
@@ -113,7 +113,7 @@ few_steps : (classes : List Class) → Steps classes ClassesFew
 few_steps classes = record {
   nothing = tt;
   both = λ a b h k. every_joined HasFewFields a.classes b.classes h k;
-  named = λ scope h k o tree e. tt;
+  named = λ scope h k o tree clause e. tt;
   without = λ scope h k m made. (class_has_few scope h k, made);
   section = λ scope h k p tree e m n made more. (
     class_has_few scope h k,

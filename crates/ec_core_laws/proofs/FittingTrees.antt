@@ -17,10 +17,13 @@ use Rattle.ec_check.proofs.Every.{Every, every_left, every_right}
 use Rattle.ec_check.proofs.Rolled.{expression_mapped, link_mapped, member_mapped, statement_mapped, block_mapped, body_mapped}
 use Rattle.ec_check.proofs.Rolled.{part_rolled, link_rolled, member_rolled, statement_rolled, addend_rolled, arm_rolled, block_rolled}
 use Rattle.ec_check.proofs.Rolled.{body_rolled, factor_rolled, object_rolled, operation_rolled, section_rolled}
+use Rattle.ec_check.proofs.Rolled.{argument_rolled, operation_mapped}
 use Rattle.ec_check.specs.Parts.{AnExpression, AStatement, ABlock, OperationPart, SectionPart}
+use Rattle.ec_check.specs.Parts.{values_of}
 use Rattle.ec_check.specs.Tree.{expression_step, statement_step, block_step, link_step, member_step, body_step}
 use Rattle.ec_check.specs.Tree.{part_of, link_of, member_of, statement_of, addend_of, arm_of, block_of, body_of, factor_of}
 use Rattle.ec_check.specs.Tree.{object_of, operation_of, section_of}
+use Rattle.ec_check.specs.Tree.{argument_of, operation_step}
 use Rattle.ec_core_laws.proofs.FittingExpressions.{AllFit, PartFits, StatementFits, PieceFits, PartHas, LinkHas, FactorHas, AddendHas}
 use Rattle.ec_core_laws.proofs.FittingExpressions.{ArmHas, PieceHas, MemberHas, BodyHas, ObjectHas, ExpressionHas, IsFitting, all_fit}
 use Rattle.ec_core_laws.proofs.FittingExpressions.{core_fits}
@@ -36,10 +39,13 @@ use Rattle.ec_ast.proofs.Claims.{Claims, Passes, Held, trees as bare_trees, Expr
 use Rattle.ec_ast.proofs.Claims.{AddendWith, ArmWith, BlockWith, BodyWith, FactorWith, ObjectWith, OperationWith, SectionWith}
 use Rattle.ec_ast.proofs.Claims.{bare_expression, bare_link, bare_member, bare_statement, bare_addend, bare_arm, bare_block}
 use Rattle.ec_ast.proofs.Claims.{bare_body, bare_factor, bare_object, bare_operation, bare_section, expression_holds, body_holds}
+use Rattle.ec_ast.proofs.Claims.{ArgumentWith, bare_argument}
 use Rattle.ec_ast.proofs.Rolled.{Rolled, folded, folds_are_rolled}
 use Rattle.ec_ast.specs.Kinds.{tree}
 use Rattle.ec_ast.specs.Layers as layers
 use Rattle.ec_ast.specs.Layers.{Maps}
+use Rattle.ec_ast.specs.declared.Argument.{Argument, roll-Argument}
+use Rattle.ec_ast.specs.declared.Span.{Span}
 
 -- the numbers in a part of each kind
 abbrev pub numbers : Maps tree kinds
@@ -72,8 +78,8 @@ block_has b h = (
 abbrev OperationHas : OperationPart → Type 0
 OperationHas = trees.OperationHas PartFits StatementFits PieceFits
 
-abbrev ProcessHas : SectionPart → Type 0
-ProcessHas = trees.ProcessHas PartFits StatementFits PieceFits
+abbrev SectionHas : SectionPart → Type 0
+SectionHas = trees.SectionHas PartFits StatementFits PieceFits
 
 abbrev pub FittingExpression : Expression → Type 0
 FittingExpression x = AllFit (numbers.expression x) → PartHas (part_of x)
@@ -89,6 +95,9 @@ FittingStatement x = AllFit (numbers.statement x) → StatementFits (statement_o
 
 abbrev FittingAddend : Addend → Type 0
 FittingAddend x = AllFit (numbers.addend x) → AddendHas (addend_of x)
+
+abbrev FittingArgument : Argument → Type 0
+FittingArgument x = AllFit (numbers.argument x) → PartHas (argument_of x).value
 
 abbrev FittingArm : Arm → Type 0
 FittingArm x = AllFit (numbers.arm x) → ArmHas (arm_of x)
@@ -108,8 +117,8 @@ FittingObject x = AllFit (numbers.object x) → ObjectHas (object_of x)
 abbrev FittingOperation : Operation → Type 0
 FittingOperation x = AllFit (numbers.operation x) → OperationHas (operation_of x)
 
-abbrev FittingProcess : Section → Type 0
-FittingProcess x = AllFit (numbers.process x) → ProcessHas (section_of x)
+abbrev FittingSection : Section → Type 0
+FittingSection x = AllFit (numbers.section x) → SectionHas (section_of x)
 
 abbrev fitting : Claims
 fitting = record {
@@ -118,13 +127,14 @@ fitting = record {
   member = FittingMember;
   statement = FittingStatement;
   addend = FittingAddend;
+  argument = FittingArgument;
   arm = FittingArm;
   block = FittingBlock;
   body = FittingBody;
   factor = FittingFactor;
   object = FittingObject;
   operation = FittingOperation;
-  section = FittingProcess;
+  section = FittingSection;
 }
 
 -- ---- lists of numbers
@@ -268,9 +278,22 @@ block_at y h = (
 
 -- ---- links, factors and addends
 
+arguments_are : (xs : List (Held FittingArgument)) → AllFit (joined (map numbers.argument (bare_trees xs))) →
+    Every PartHas (values_of (map argument_of (bare_trees xs)))
+arguments_are [] h = tt
+arguments_are (x ∷ xs) h = (
+  x.1 (first (numbers.argument x.0) (joined (map numbers.argument (bare_trees xs))) h),
+  arguments_are xs (behind (numbers.argument x.0) (joined (map numbers.argument (bare_trees xs))) h),
+)
+
+argument_at : (y : ArgumentWith fitting) → FittingArgument (roll-Argument (bare_argument fitting y))
+argument_at y h =
+    subst (λ a. PartHas a.value) (sym (argument_rolled (bare_argument fitting y)))
+    (y.value.1 (subst AllFit (rolled.argument (bare_argument fitting y)) h))
+
 link_is : (y : LinkWith fitting) → AllFit (link_numbers (layers.link_mapped numbers (bare_link fitting y))) →
     LinkHas (link_step (link_mapped (bare_link fitting y)))
-link_is (Link-F.Call name xs) h = each_claimed part_of numbers.expression PartHas xs h
+link_is (Link-F.Call name xs) h = arguments_are xs h
 link_is (Link-F.Index x at) h = x.1 h
 
 link_at : (y : LinkWith fitting) → FittingLink (roll-Link (bare_link fitting y))
@@ -300,18 +323,28 @@ member_at y h =
     subst MemberHas (sym (member_rolled (bare_member fitting y)))
     (member_is y (subst AllFit (rolled.member (bare_member fitting y)) h))
 
+abbrev with_failure : OperationWith fitting → Option (Held FittingSection) → OperationWith fitting
+with_failure y failure = record y { failure = failure }
+
+operation_is : (y : OperationWith fitting) (failure : Option (Held FittingSection)) →
+    AllFit (steps.operation (layers.operation_mapped numbers (bare_operation fitting (with_failure y failure)))) →
+    OperationHas (operation_step (operation_mapped (bare_operation fitting (with_failure y failure))))
+operation_is y None h = (y.block.1 (first (numbers.block y.block.0) [] h), tt)
+operation_is y (Some c) h =
+    (y.block.1 (first (numbers.block y.block.0) (numbers.section c.0) h), c.1 (behind (numbers.block y.block.0) (numbers.section c.0) h))
+
 operation_at : (y : OperationWith fitting) → FittingOperation (roll-Operation (bare_operation fitting y))
 operation_at y h =
     subst OperationHas (sym (operation_rolled (bare_operation fitting y)))
-    (y.block.1 (subst AllFit (rolled.operation (bare_operation fitting y)) h))
+    (operation_is y y.failure (subst AllFit (rolled.operation (bare_operation fitting y)) h))
 
-process_at : (y : SectionWith fitting) → FittingProcess (roll-Section (bare_section fitting y))
-process_at y h =
-    subst ProcessHas (sym (section_rolled (bare_section fitting y)))
-    (y.block.1 (subst AllFit (rolled.process (bare_section fitting y)) h))
+section_at : (y : SectionWith fitting) → FittingSection (roll-Section (bare_section fitting y))
+section_at y h =
+    subst SectionHas (sym (section_rolled (bare_section fitting y)))
+    (y.block.1 (subst AllFit (rolled.section (bare_section fitting y)) h))
 
-abbrev body_layer : List (Held FittingMember) → Option (Held FittingBlock) → Option (Held FittingProcess) → BodyWith fitting
-body_layer ms i p = record { members = ms; initially = i; process = p }
+abbrev body_layer : List (Held FittingMember) → Option (Held FittingSection) → Option (Held FittingSection) → Span → BodyWith fitting
+body_layer ms i p at = record { members = ms; initially = i; process = p; end_at = at }
 
 abbrev of_members : List (Held FittingMember) → Numbers
 of_members ms = joined (map numbers.member (bare_trees ms))
@@ -320,26 +353,26 @@ members_have : (ms : List (Held FittingMember)) (more : Numbers) → AllFit (of_
     Every MemberHas (map member_of (bare_trees ms))
 members_have ms more h = each_claimed member_of numbers.member MemberHas ms (first (of_members ms) more h)
 
-body_is : (ms : List (Held FittingMember)) (i : Option (Held FittingBlock)) (p : Option (Held FittingProcess)) →
-    AllFit (body_numbers (layers.body_mapped numbers (bare_body fitting (body_layer ms i p)))) →
-    BodyHas (body_step (body_mapped (bare_body fitting (body_layer ms i p))))
-body_is ms None None h = (members_have ms [] h, tt, tt)
-body_is ms None (Some p) h = (members_have ms (numbers.process p.0) h, tt, p.1 (behind (of_members ms) (numbers.process p.0) h))
-body_is ms (Some i) None h =
-    let inner : AllFit (numbers.block i.0 ++ []) = behind (of_members ms) (numbers.block i.0 ++ []) h in
-    (members_have ms (numbers.block i.0 ++ []) h, i.1 (first (numbers.block i.0) [] inner), tt)
-body_is ms (Some i) (Some p) h =
-    let inner : AllFit (numbers.block i.0 ++ numbers.process p.0) =
-    behind (of_members ms) (numbers.block i.0 ++ numbers.process p.0) h in (
-      members_have ms (numbers.block i.0 ++ numbers.process p.0) h,
-      i.1 (first (numbers.block i.0) (numbers.process p.0) inner),
-      p.1 (behind (numbers.block i.0) (numbers.process p.0) inner),
+body_is : (ms : List (Held FittingMember)) (i p : Option (Held FittingSection)) (at : Span) →
+    AllFit (body_numbers (layers.body_mapped numbers (bare_body fitting (body_layer ms i p at)))) →
+    BodyHas (body_step (body_mapped (bare_body fitting (body_layer ms i p at))))
+body_is ms None None at h = (members_have ms [] h, tt, tt)
+body_is ms None (Some p) at h = (members_have ms (numbers.section p.0) h, tt, p.1 (behind (of_members ms) (numbers.section p.0) h))
+body_is ms (Some i) None at h =
+    let inner : AllFit (numbers.section i.0 ++ []) = behind (of_members ms) (numbers.section i.0 ++ []) h in
+    (members_have ms (numbers.section i.0 ++ []) h, i.1 (first (numbers.section i.0) [] inner), tt)
+body_is ms (Some i) (Some p) at h =
+    let inner : AllFit (numbers.section i.0 ++ numbers.section p.0) =
+    behind (of_members ms) (numbers.section i.0 ++ numbers.section p.0) h in (
+      members_have ms (numbers.section i.0 ++ numbers.section p.0) h,
+      i.1 (first (numbers.section i.0) (numbers.section p.0) inner),
+      p.1 (behind (numbers.section i.0) (numbers.section p.0) inner),
     )
 
 body_at : (y : BodyWith fitting) → FittingBody (roll-Body (bare_body fitting y))
 body_at y h =
     subst BodyHas (sym (body_rolled (bare_body fitting y)))
-    (body_is y.members y.initially y.process (subst AllFit (rolled.body (bare_body fitting y)) h))
+    (body_is y.members y.initially y.process y.end_at (subst AllFit (rolled.body (bare_body fitting y)) h))
 
 object_at : (y : ObjectWith fitting) → FittingObject (roll-ObjectConstructor (bare_object fitting y))
 object_at y h =
@@ -355,13 +388,14 @@ passes = record {
   member = member_at;
   statement = statement_at;
   addend = addend_at;
+  argument = argument_at;
   arm = arm_at;
   block = block_at;
   body = body_at;
   factor = factor_at;
   object = object_at;
   operation = operation_at;
-  section = process_at;
+  section = section_at;
 }
 
 pub fitting_part : (x : Expression) → FittingExpression x

@@ -6,6 +6,7 @@ use Rattle.ec_ast.specs.declared.Program.{Program}
 use Rattle.ec_check.specs.Parts.{operation_judged}
 use Rattle.ec_check.specs.Program.{core_of}
 use Rattle.ec_check.specs.Resolving.{types_written, result_written, heading_types}
+use Rattle.ec_check.specs.Resolving.{locals_of_blocks}
 use Rattle.ec_types.specs.Declarations.{declarations_of}
 use Rattle.ec_types.specs.Table.{Table, IsTable}
 use Rattle.ec_types.specs.declared.conform.static_type.StaticType.{StaticType}
@@ -37,8 +38,8 @@ pub each_fits : (table : Table) (program : Program) → IsTable (declarations_of
 each_fits table program is none =
     each_operation table program HeadingFits is none
     (record {
-      named = λ scope h known o tree e.
-          fits (scope_in scope h) o.parameters o.result (o.block.locals (scope_of_operation (scope_in scope h) (operation_judged o)));
+      named = λ scope h known o tree clause e.
+          fits (scope_in scope h) o.parameters o.result (locals_of_blocks (scope_of_operation (scope_in scope h) (operation_judged o)) o);
       first = λ scope h known. omega arith;
       process = λ scope h known p tree e. omega arith;
     })

@@ -14,7 +14,7 @@ use Rattle.ec_ast.specs.declared.Parameter.{Parameter}
 use Rattle.ec_ast.specs.declared.Section.{Section, roll-Section, out-Section, roll-out-Section}
 use Rattle.ec_ast.specs.declared.TypeName.{TypeName}
 use Rattle.ec_base.proofs.Stacks.{top_of-push}
-use Rattle.ec_check.proofs.Equations.{body_step_of, operation_step_of, process_step_of}
+use Rattle.ec_check.proofs.Equations.{body_step_of, operation_step_of, section_step_of}
 use Rattle.ec_check.proofs.Every.{Every, Where, every_weaker, none_left, none_right}
 use Rattle.ec_check.proofs.FittingScopes.{locals_changed, locals_declared}
 use Rattle.ec_check.proofs.Fusion.{same_part}
@@ -24,11 +24,13 @@ use Rattle.ec_check.proofs.Rolled.{MemberLayer, member_mapped, member_rolled}
 use Rattle.ec_check.proofs.SuitingBodies.{all_members}
 use Rattle.ec_check.specs.Parts.{Piece, SectionPart, OperationPart, MemberPart, variable, constant, condition, operation, BodyPart, Holder}
 use Rattle.ec_check.specs.Parts.{member_judged, operation_judged, section_judged, holder_judged, Made}
+use Rattle.ec_check.specs.Parts.{block_in}
 use Rattle.ec_check.specs.Places.{Env, fields_of, names_of, type_or}
 use Rattle.ec_check.specs.Resolving.{env_in, env_of_body, env_of_operation, field_of, field_stored, conditions_in, members_made}
 use Rattle.ec_check.specs.Resolving.{heading_entries, heading_types, types_written, result_written, numbers_from, initially_core}
 use Rattle.ec_check.specs.Resolving.{initially_made, locals_of_block}
 use Rattle.ec_check.specs.Resolving.{process_made, number_of_holder, captures_of, holder_made}
+use Rattle.ec_check.specs.Resolving.{core_of_block, behind_block}
 use Rattle.ec_check.specs.Tree.{part_of, block_of, body_of, body_step, member_of, member_step, operation_of, operation_step, section_of}
 use Rattle.ec_types.specs.declared.conform.static_type.StaticType.{StaticType}
 use Rattle.ec_core.specs.declared.Block.{roll-out-Block as roll-out-core-block}
@@ -38,14 +40,17 @@ use Rattle.ec_core_laws.proofs.Naming.{Fit, field_is, there_first, there_right}
 use Rattle.ec_core_laws.proofs.Ready.{Ready, first_ready, second_ready, ready_within, PartTied, StatementTied, BlockTied}
 use Rattle.ec_core_laws.proofs.CoreTiesTrees as trees
 use Rattle.ec_core_laws.specs.Names.{numbered}
+use Rattle.ec_core_laws.specs.Names.{further}
 use Rattle.ec_core_laws.specs.Ties as ties
 use Rattle.ec_core_laws.specs.Ties.{AreMembers, IsInitially, IsProcess, TiedBlock, TiedHolder, behind_heading}
+use Rattle.ec_core_laws.specs.Ties.{IsClause}
 use Rattle.ec_types.specs.Names.{Text, has_name}
 use Rattle.ec_rules.specs.Captures.{captured}
 use Rattle.ec_rules.specs.Doubled.{doubled_in_body}
 use Rattle.ec_rules.specs.EndNames.{end_of_holder}
 use Rattle.ec_rules.specs.Judging.{body_finished, heading_faults, type_faults, member_finished, members_finished, finished_if}
 use Rattle.ec_rules.specs.Judging.{process_finished, faults_in_holder, uses_within}
+use Rattle.ec_rules.specs.Judging.{clause_finished}
 use Rattle.ec_rules.specs.Limits.{many_fields, many_parameters}
 use Rattle.ec_rules.specs.Lists.{each}
 use Rattle.ec_rules.specs.Members.{constant_type, fields_in, form_type, members_of, object_with, parameter_entries, result_entries}
@@ -58,6 +63,7 @@ use Rattle.ec_rules.specs.Tree as judged_tree
 use Rattle.ec_types.specs.declared.scopes.entries.Entry.{Entry}
 use Rattle.ec_types.specs.declared.scopes.scope.Scope.{Scope}
 use Rattle.ec_types.specs.Scopes.{at_process, declaring, in_a_process, innermost, locals_of}
+use Rattle.ec_ast.specs.declared.Span.{Span}
 
 -- ---- types of consts
 
@@ -190,17 +196,40 @@ step_of o = operation_step (record {
   parameters = (out-Operation o).parameters;
   result = (out-Operation o).result;
   block = block_of (out-Operation o).block;
+  failure = option_map section_of (out-Operation o).failure;
   end_name = (out-Operation o).end_name;
+  end_at = (out-Operation o).end_at;
 })
 
 abbrev pub MemberTied : Member → Type 0
 MemberTied = trees.TreeMemberHas PartTied StatementTied BlockTied
 
-abbrev pub ProcessTied : Section → Type 0
-ProcessTied = trees.TreeProcessHas PartTied StatementTied BlockTied
+abbrev pub SectionTied : Section → Type 0
+SectionTied = trees.TreeSectionHas PartTied StatementTied BlockTied
+
+abbrev OperationTied : Operation → Type 0
+OperationTied = trees.TreeOperationHas PartTied StatementTied BlockTied
 
 abbrev pub BodyTied : Body → Type 0
 BodyTied = trees.TreeBodyHas PartTied StatementTied BlockTied
+
+-- ---- failure clauses
+
+abbrev ClauseIs : Env → Section → SectionPart → Type 0
+ClauseIs at x p =
+    Ready at (clause_finished at.scope (Some p.block.piece)).uses (clause_finished at.scope (Some p.block.piece)).faults →
+    IsClause at (Some x) (core_of_block at (Some p.block)) (locals_of_block at.scope (Some p.block)) (initially_made at.scope (Some p.block))
+
+clause_tied : (at : Env) (x : Option Section) → Where SectionTied x →
+    Ready at (clause_finished at.scope (option_map (λ p. p.piece) (block_in (option_map section_of x)))).uses
+    (clause_finished at.scope (option_map (λ p. p.piece) (block_in (option_map section_of x)))).faults →
+    IsClause at x (core_of_block at (block_in (option_map section_of x))) (locals_of_block at.scope (block_in (option_map section_of x)))
+    (initially_made at.scope (block_in (option_map section_of x)))
+clause_tied at None h r = ties.no_clause
+clause_tied at (Some x) h r =
+    subst (λ y. ClauseIs at y (section_of x)) (roll-out-Section x)
+    (subst (ClauseIs at (roll-Section (out-Section x))) (sym (section_step_of x))
+    (λ q. ties.clause (out-Section x).at (out-Section x).end_at (h at q))) r
 
 module _ (scope : Scope) (captures : List Text) (class : ℕ) (is_monitored : Bool) (fit : Fit (env_in scope captures)) where
   abbrev env : Env
@@ -227,9 +256,26 @@ module _ (scope : Scope) (captures : List Text) (class : ℕ) (is_monitored : Bo
       AreMembers class env xs fields stores n m → AreMembers class env xs fields stores (0 + n) m
   same_count xs fields stores n m h = subst (λ k. AreMembers class env xs fields stores k m) (none_more n) h
 
-  block_behind : (x : Block) (o : OperationPart) → BlockTied x → o.block ≡ block_of x →
+  abbrev ReadyOperation : OperationPart → Type 0
+  ReadyOperation o =
       Ready env (member_finished scope is_monitored (judged.operation (operation_judged o))).uses
-      (member_finished scope is_monitored (judged.operation (operation_judged o))).faults →
+      (member_finished scope is_monitored (judged.operation (operation_judged o))).faults
+
+  abbrev within : OperationPart → Scope
+  within o = rules.scope_of_operation scope (operation_judged o)
+
+  blocks_ready : (o : OperationPart) → ReadyOperation o →
+      Ready (env_of_operation env o)
+      ((o.block.piece (within o)).uses ++ (clause_finished (within o) (option_map (λ p. p.piece) o.failure)).uses)
+      ((o.block.piece (within o)).faults ++ (clause_finished (within o) (option_map (λ p. p.piece) o.failure)).faults)
+  blocks_ready o r = record {
+    fit = heading_fits scope captures o fit;
+    reach = r.reach;
+    faultless = none_left _ _ (none_left _ _ r.faultless);
+  }
+
+  block_behind : (x : Block) (o : OperationPart) → BlockTied x → o.block ≡ block_of x →
+      ReadyOperation o →
       TiedBlock (behind_heading env o.parameters o.result) x (o.block.core (env_of_operation env o))
       (o.block.locals (rules.scope_of_operation scope (operation_judged o)))
       (o.block.made (rules.scope_of_operation scope (operation_judged o)))
@@ -239,8 +285,7 @@ module _ (scope : Scope) (captures : List Text) (class : ℕ) (is_monitored : Bo
       TiedBlock at x (o.block.core (env_of_operation env o)) (o.block.locals (rules.scope_of_operation scope (operation_judged o)))
       (o.block.made (rules.scope_of_operation scope (operation_judged o))))
       (heading_same scope captures o)
-      (tied o.block (sym is)
-      (record { fit = heading_fits scope captures o fit; reach = r.reach; faultless = none_left _ _ (none_left _ _ r.faultless) }))
+      (tied o.block (sym is) (first_ready _ _ _ _ (blocks_ready o r)))
     where
       tied : (b : Piece) → block_of x ≡ b →
           Ready (env_of_operation env o) (b.piece (rules.scope_of_operation scope (operation_judged o))).uses
@@ -256,7 +301,35 @@ module _ (scope : Scope) (captures : List Text) (class : ℕ) (is_monitored : Bo
           (b.locals (rules.scope_of_operation scope (operation_judged o))) (b.made (rules.scope_of_operation scope (operation_judged o))))
           same (h (env_of_operation env o))
 
-  operation_tied : (xs : List Member) (o : Operation) → BlockTied (out-Operation o).block →
+  clause_behind : (x : Option Section) (o : OperationPart) → Where SectionTied x → o.failure ≡ block_in (option_map section_of x) →
+      ReadyOperation o →
+      IsClause (further (behind_heading env o.parameters o.result) (length (o.block.locals (within o)))) x
+      (core_of_block (behind_block (env_of_operation env o) o.block) o.failure) (locals_of_block (within o) o.failure)
+      (initially_made (within o) o.failure)
+  clause_behind x o h is r =
+      subst
+      (λ at.
+      IsClause (further at (length (o.block.locals (within o)))) x
+      (core_of_block (behind_block (env_of_operation env o) o.block) o.failure) (locals_of_block (within o) o.failure)
+      (initially_made (within o) o.failure))
+      (heading_same scope captures o) (tied o.failure (sym is) (second_ready _ _ _ _ (blocks_ready o r)))
+    where
+      abbrev at : Env
+      at = behind_block (env_of_operation env o) o.block
+
+      tied : (c : Option Piece) → block_in (option_map section_of x) ≡ c →
+          Ready (env_of_operation env o) (clause_finished (within o) (option_map (λ p. p.piece) c)).uses
+          (clause_finished (within o) (option_map (λ p. p.piece) c)).faults →
+          IsClause at x (core_of_block at c) (locals_of_block (within o) c) (initially_made (within o) c)
+      tied c same =
+          subst
+          (λ (c : Option Piece).
+          Ready (env_of_operation env o) (clause_finished (within o) (option_map (λ p. p.piece) c)).uses
+          (clause_finished (within o) (option_map (λ p. p.piece) c)).faults →
+          IsClause at x (core_of_block at c) (locals_of_block (within o) c) (initially_made (within o) c))
+          same (λ q. clause_tied at x h (record { fit = q.fit; reach = q.reach; faultless = q.faultless }))
+
+  operation_tied : (xs : List Member) (o : Operation) → OperationTied o →
       FirstMember xs (roll-Member (Member-F.Operation o)) (operation (operation_of o))
   operation_tied xs o h =
       subst (λ x. FirstMember xs x (operation (operation_of o))) (sym (tree_member.rolls-Operation o))
@@ -264,8 +337,10 @@ module _ (scope : Scope) (captures : List Text) (class : ℕ) (is_monitored : Bo
       (subst (λ p. FirstMember xs (tree_member.Operation (roll-Operation (out-Operation o))) (operation p)) (sym (operation_step_of o))
       (λ r there more.
       same_count _ _ _ _ _
-      (ties.operation (out-Operation o).is_exported (out-Operation o).name (out-Operation o).end_name (out-Operation o).parameters
-      (out-Operation o).result (block_behind (out-Operation o).block (step_of o) h refl (first_ready _ _ _ _ r)) more))))
+      (ties.operation (out-Operation o).is_exported (out-Operation o).name (out-Operation o).end_name (out-Operation o).end_at
+      (out-Operation o).parameters (out-Operation o).result
+      (block_behind (out-Operation o).block (step_of o) h.0 refl (first_ready _ _ _ _ r))
+      (clause_behind (out-Operation o).failure (step_of o) h.1 refl (first_ready _ _ _ _ r)) more))))
 
   member_tied : (xs : List Member) (y : MemberLayer) → trees.MemberLayerHas PartTied StatementTied BlockTied y →
       FirstMember xs (roll-Member y) (member_step (member_mapped y))
@@ -302,54 +377,69 @@ module _ (scope : Scope) (captures : List Text) (class : ℕ) (is_monitored : Bo
 
 -- ---- blocks of a body
 
-initially_tied : (at : Env) (x : Option Block) → Where BlockTied x →
-    Ready at (finished_if at.scope (option_map (λ p. p.piece) (option_map block_of x))).uses
-    (finished_if at.scope (option_map (λ p. p.piece) (option_map block_of x))).faults →
-    IsInitially at x (initially_core at (option_map block_of x)) (locals_of_block at.scope (option_map block_of x))
-    (initially_made at.scope (option_map block_of x))
+abbrev InitiallyIs : Env → Section → SectionPart → Type 0
+InitiallyIs at x p =
+    Ready at (p.block.piece at.scope).uses (p.block.piece at.scope).faults →
+    IsInitially at (Some x) (initially_core at (Some p.block)) (p.block.locals at.scope) (p.block.made at.scope)
+
+initially_tied : (at : Env) (x : Option Section) → Where SectionTied x →
+    Ready at (finished_if at.scope (option_map (λ p. p.piece) (block_in (option_map section_of x)))).uses
+    (finished_if at.scope (option_map (λ p. p.piece) (block_in (option_map section_of x)))).faults →
+    IsInitially at x (initially_core at (block_in (option_map section_of x)))
+    (locals_of_block at.scope (block_in (option_map section_of x))) (initially_made at.scope (block_in (option_map section_of x)))
 initially_tied at None h r = ties.no_initially
 initially_tied at (Some x) h r =
-    ties.initially
-    (subst (λ y. TiedBlock at x y ((block_of x).locals at.scope) ((block_of x).made at.scope))
-    (sym (roll-out-core-block ((block_of x).core at))) (h at r))
+    let inner : Block = (out-Section x).block in
+    subst (λ y. InitiallyIs at y (section_of x)) (roll-out-Section x)
+    (subst (InitiallyIs at (roll-Section (out-Section x))) (sym (section_step_of x))
+    (λ q.
+    ties.initially (out-Section x).at (out-Section x).end_at
+    (subst (λ y. TiedBlock at inner y ((block_of inner).locals at.scope) ((block_of inner).made at.scope))
+    (sym (roll-out-core-block ((block_of inner).core at))) (h at q)))) r
 
 process_fits : (scope : Scope) (captures : List Text) → Fit (env_in scope captures) → Fit (env_in (in_a_process scope) captures)
 process_fits scope captures f = subst (λ ls. length ls ≤ 0) (sym (locals_changed at_process (λ o. refl) scope)) f
 
-abbrev SectionTied : ℕ → Scope → List Text → Name → Section → SectionPart → Type 0
-SectionTied class scope captures name x p =
+abbrev ProcessIs : ℕ → Scope → List Text → Name → Section → SectionPart → Type 0
+ProcessIs class scope captures name x p =
     Ready (env_in scope captures) (process_finished scope (Some (section_judged p))).uses
     (process_finished scope (Some (section_judged p))).faults →
     IsProcess class (env_in scope captures) name (Some x) (process_made class (env_in scope captures) name (Some p))
 
 process_tied : (class : ℕ) (scope : Scope) (captures : List Text) (name : Name) (x : Option Section) → Fit (env_in scope captures) →
-    Where ProcessTied x →
+    Where SectionTied x →
     Ready (env_in scope captures) (process_finished scope (option_map section_judged (option_map section_of x))).uses
     (process_finished scope (option_map section_judged (option_map section_of x))).faults →
     IsProcess class (env_in scope captures) name x (process_made class (env_in scope captures) name (option_map section_of x))
 process_tied class scope captures name None f h r = ties.no_process
 process_tied class scope captures name (Some x) f h r =
-    subst (λ y. SectionTied class scope captures name y (section_of x)) (roll-out-Section x)
-    (subst (SectionTied class scope captures name (roll-Section (out-Section x))) (sym (process_step_of x))
+    subst (λ y. ProcessIs class scope captures name y (section_of x)) (roll-out-Section x)
+    (subst (ProcessIs class scope captures name (roll-Section (out-Section x))) (sym (section_step_of x))
     (λ q.
-    ties.process (out-Section x).at
+    ties.process (out-Section x).at (out-Section x).end_at
     (h (env_in (in_a_process scope) captures)
     (record { fit = process_fits scope captures f; reach = q.reach; faultless = none_left _ _ q.faultless })))) r
 
 -- ---- bodies
 
-abbrev holder_with : Name → Bool → List Parameter → Name → BodyPart → Holder
-holder_with name is_monitored parameters end_name body =
-    record { name = name; is_monitored = is_monitored; parameters = parameters; body = body; end_name = end_name }
+abbrev holder_with : Name → Bool → Bool → List Parameter → Name → BodyPart → Holder
+holder_with name is_immutable is_monitored parameters end_name body =
+    record { name = name; is_immutable = is_immutable; is_monitored = is_monitored; parameters = parameters; body = body; end_name = end_name }
 
-abbrev BodyMakes : Scope → Name → Bool → List Parameter → Name → Body → BodyPart → Type 0
-BodyMakes scope name is_monitored parameters end_name x b =
-    faults_in_holder scope (holder_judged (holder_with name is_monitored parameters end_name b)) ≡ [] →
-    TiedHolder scope (holder_judged (holder_with name is_monitored parameters end_name b)) x
-    (holder_made scope (holder_with name is_monitored parameters end_name b))
+abbrev BodyMakes : Scope → Name → Bool → Bool → List Parameter → Name → Body → BodyPart → Type 0
+BodyMakes scope name is_immutable is_monitored parameters end_name x b =
+    faults_in_holder scope (holder_judged (holder_with name is_immutable is_monitored parameters end_name b)) ≡ [] →
+    TiedHolder scope (holder_judged (holder_with name is_immutable is_monitored parameters end_name b)) x
+    (holder_made scope (holder_with name is_immutable is_monitored parameters end_name b))
 
-abbrev body_with : List Member → Option Block → Option Section → BodyPart
-body_with ms i p = body_step (record { members = map member_of ms; initially = option_map block_of i; process = option_map section_of p })
+abbrev body_with : List Member → Option Section → Option Section → Span → BodyPart
+body_with ms i p at =
+    body_step (record {
+      members = map member_of ms;
+      initially = option_map section_of i;
+      process = option_map section_of p;
+      end_at = at;
+    })
 
 no_doubled_in : (scope : Scope) (h : judged.Holder) → faults_in_holder scope h ≡ [] → doubled_in_body h ≡ []
 no_doubled_in scope h e =
@@ -360,22 +450,22 @@ no_doubled_in scope h e =
     (none_left (heading_faults scope h) (many_fields (captured (uses_within scope h)) h)
     (none_right (body_finished (scope_of scope h) h).faults (heading_faults scope h ++ many_fields (captured (uses_within scope h)) h) e))))
 
-body_makes : (scope : Scope) (name : Name) (is_monitored : Bool) (parameters : List Parameter) (end_name : Name) (ms : List Member)
-    (i : Option Block) (p : Option Section) → Every MemberTied ms → Where BlockTied i → Where ProcessTied p →
-    BodyMakes scope name is_monitored parameters end_name (roll-Body (record { members = ms; initially = i; process = p }))
-    (body_with ms i p)
-body_makes scope name is_monitored parameters end_name ms i p h k g e =
-    let around : Holder = holder_with name is_monitored parameters end_name (body_with ms i p) in
+body_makes : (scope : Scope) (name : Name) (is_immutable is_monitored : Bool) (parameters : List Parameter) (end_name : Name) (ms : List Member)
+    (i p : Option Section) (at : Span) → Every MemberTied ms → Where SectionTied i → Where SectionTied p →
+    BodyMakes scope name is_immutable is_monitored parameters end_name (roll-Body (record { members = ms; initially = i; process = p; end_at = at }))
+    (body_with ms i p at)
+body_makes scope name is_immutable is_monitored parameters end_name ms i p at h k g e =
+    let around : Holder = holder_with name is_immutable is_monitored parameters end_name (body_with ms i p at) in
     let inner : Scope = scope_of scope (holder_judged around) in
     let fit : Fit (env_of_body scope around) = body_fits scope around in
     let all : Ready (env_of_body scope around)
     (((members_finished inner is_monitored (map member_judged (map member_of ms))).uses
-    ++ (finished_if inner (option_map (λ p. p.piece) (option_map block_of i))).uses)
+    ++ (finished_if inner (option_map (λ p. p.piece) (block_in (option_map section_of i)))).uses)
     ++ (process_finished inner (option_map section_judged (option_map section_of p))).uses) _ =
     record { fit = fit; reach = each_reached (uses_within scope (holder_judged around)); faultless = none_left _ _ e } in
     let first : Ready (env_of_body scope around)
     ((members_finished inner is_monitored (map member_judged (map member_of ms))).uses
-    ++ (finished_if inner (option_map (λ p. p.piece) (option_map block_of i))).uses) _ =
+    ++ (finished_if inner (option_map (λ p. p.piece) (block_in (option_map section_of i)))).uses) _ =
     ready_within _ _ (first_ready _ _ _ _ all) in
     ties.holder (length-map (captures_of scope around) _)
     (members_tied inner (captures_of scope around) (number_of_holder scope around) is_monitored fit ms h (first_ready _ _ _ _ first)
@@ -383,10 +473,10 @@ body_makes scope name is_monitored parameters end_name ms i p h k g e =
     (initially_tied (env_of_body scope around) i k (second_ready _ _ _ _ first))
     (process_tied (number_of_holder scope around) inner (captures_of scope around) name p fit g (second_ready _ _ _ _ all))
 
-pub holder_tied : (scope : Scope) (name : Name) (is_monitored : Bool) (parameters : List Parameter) (end_name : Name) (x : Body) →
+pub holder_tied : (scope : Scope) (name : Name) (is_immutable is_monitored : Bool) (parameters : List Parameter) (end_name : Name) (x : Body) →
     BodyTied x →
-    BodyMakes scope name is_monitored parameters end_name x (body_of x)
-holder_tied scope name is_monitored parameters end_name x h =
-    subst (λ y. BodyMakes scope name is_monitored parameters end_name y (body_of x)) (roll-out-Body x)
-    (subst (BodyMakes scope name is_monitored parameters end_name (roll-Body (out-Body x))) (sym (body_step_of x))
-    (body_makes scope name is_monitored parameters end_name (out-Body x).members (out-Body x).initially (out-Body x).process h.0 h.1 h.2))
+    BodyMakes scope name is_immutable is_monitored parameters end_name x (body_of x)
+holder_tied scope name is_immutable is_monitored parameters end_name x h =
+    subst (λ y. BodyMakes scope name is_immutable is_monitored parameters end_name y (body_of x)) (roll-out-Body x)
+    (subst (BodyMakes scope name is_immutable is_monitored parameters end_name (roll-Body (out-Body x))) (sym (body_step_of x))
+    (body_makes scope name is_immutable is_monitored parameters end_name (out-Body x).members (out-Body x).initially (out-Body x).process (out-Body x).end_at h.0 h.1 h.2))

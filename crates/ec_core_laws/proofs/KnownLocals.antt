@@ -16,6 +16,7 @@ use Rattle.ec_core_laws.proofs.SoundLayers.{statement_parts_sound}
 use Rattle.ec_core_laws.proofs.Trees.{IsPiece, IsBody}
 use Rattle.ec_core_laws.proofs.Trees as trees
 use Rattle.ec_rules.specs.Judging.{statement_part, statement_finished, entries_of, block_finished, finished_if}
+use Rattle.ec_rules.specs.Judging.{clause_finished}
 use Rattle.ec_rules.specs.Parts as judged
 use Rattle.ec_rules.specs.Statements.{piece_of_arm, pieces_of_block}
 use Rattle.ec_types.specs.declared.scopes.scope.Scope.{Scope}
@@ -138,6 +139,12 @@ first_typed : (b : Option Piece) → Where PieceHas b → (scope : Scope) → So
     (finished_if scope (option_map (λ p. p.piece) b)).faults ≡ [] → Every IsTyped (locals_of_block scope b)
 first_typed None h scope s e = tt
 first_typed (Some b) h scope s e = h.1 scope s e
+
+-- of a failure clause
+pub clause_typed : (b : Option Piece) → Where IsPiece b → (scope : Scope) → SoundScope scope →
+    (clause_finished scope (option_map (λ p. p.piece) b)).faults ≡ [] → Every IsTyped (locals_of_block scope b)
+clause_typed None tree scope s e = tt
+clause_typed (Some b) tree scope s e = piece_typed b tree scope s e
 
 -- of the `initially` block of a body
 pub initially_typed : (b : BodyPart) → IsBody b → (scope : Scope) → SoundScope scope →

@@ -8,6 +8,7 @@ use Rattle.ec_ast.specs.declared.Parameter.{Parameter}
 use Rattle.ec_ast.specs.declared.Program.{Program}
 use Rattle.ec_check.proofs.CapturedNames.{HeldAt, each_captured}
 use Rattle.ec_check.proofs.Every.{Every, every_joined, every_weaker, all_of, none_left, none_right, not_both}
+use Rattle.ec_check.proofs.Every.{Where}
 use Rattle.ec_check.proofs.FoundPlaces.{held_is_found}
 use Rattle.ec_check.proofs.Fusion.{same_part}
 use Rattle.ec_check.proofs.GoodTrees.{good_part}
@@ -25,6 +26,7 @@ use Rattle.ec_check.specs.Places.{Env, type_found}
 use Rattle.ec_check.specs.Program.{constant_core, constants_core, core_of, outermost}
 use Rattle.ec_check.specs.Resolving.{captures_of, class_core, env_in, field_of, heading_types, parameter_field, result_written}
 use Rattle.ec_check.specs.Resolving.{types_written}
+use Rattle.ec_check.specs.Resolving.{locals_of_blocks, locals_of_block}
 use Rattle.ec_check.specs.Tree.{part_of}
 use Rattle.ec_types.specs.Declarations.{declarations_of}
 use Rattle.ec_types.specs.Table.{Table, IsTable}
@@ -34,7 +36,9 @@ use Rattle.ec_core.specs.declared.Class.{Class}
 use Rattle.ec_core.specs.declared.Constant.{Constant as CoreConstant}
 use Rattle.ec_core.specs.declared.Field.{Field}
 use Rattle.ec_core_laws.proofs.Bodies.{block_faultless, section_faultless, members_faultless, initially_faultless}
+use Rattle.ec_core_laws.proofs.Bodies.{clause_faultless}
 use Rattle.ec_core_laws.proofs.KnownLocals.{IsTyped, type_there, piece_typed, initially_typed}
+use Rattle.ec_core_laws.proofs.KnownLocals.{clause_typed}
 use Rattle.ec_core_laws.proofs.Operations.{Known, OperationFaultless, ProcessFaultless, Steps, body_is_sound, sound_in, scope_in}
 use Rattle.ec_core_laws.proofs.Operations.{first_of, named_of, section_of, process_with}
 use Rattle.ec_core_laws.proofs.Programs.{Faultless, constants_faultless, made_holds}
@@ -90,14 +94,16 @@ heading_typed scope ps result e =
     (result_typed scope result (none_right _ _ e))
 
 named_typed : {classes : List Class} (scope : Scope) (h : Holder) → Known classes scope h → (o : OperationPart) →
-    IsPiece o.block → OperationFaultless scope h o → Every IsTyped (named_of scope h o).variables
-named_typed scope h k o tree e =
+    IsPiece o.block → Where IsPiece o.failure → OperationFaultless scope h o → Every IsTyped (named_of scope h o).variables
+named_typed scope h k o tree clause e =
     let heading : unknown_in_operation scope.table o.parameters o.result ≡ [] = none_left _ _ (none_right _ _ e) in
-    every_joined IsTyped (heading_types (scope_in scope h) o.parameters o.result)
-    (o.block.locals (scope_of_operation (scope_in scope h) (operation_judged o)))
+    let inner : Scope = scope_of_operation (scope_in scope h) (operation_judged o) in
+    let sound : SoundScope inner = sound_in_operation (scope_in scope h) (operation_judged o) (sound_in scope h k) heading in
+    every_joined IsTyped (heading_types (scope_in scope h) o.parameters o.result) (locals_of_blocks inner o)
     (heading_typed (scope_in scope h) o.parameters o.result heading)
-    (piece_typed o.block tree (scope_of_operation (scope_in scope h) (operation_judged o))
-    (sound_in_operation (scope_in scope h) (operation_judged o) (sound_in scope h k) heading) (block_faultless scope h o e))
+    (every_joined IsTyped (o.block.locals inner) (locals_of_block inner o.failure)
+    (piece_typed o.block tree inner sound (block_faultless scope h o e))
+    (clause_typed o.failure clause inner sound (clause_faultless scope h o e)))
 
 first_typed : {classes : List Class} (scope : Scope) (h : Holder) → Known classes scope h → Every IsTyped (first_of scope h).variables
 first_typed scope h k =
@@ -195,7 +201,7 @@ known_steps classes = record {
     every_joined KnowsVariables a.operations b.operations h.0 k.0,
     every_joined KnowsClass a.classes b.classes h.1 k.1,
   );
-  named = λ scope h k o tree e. ((all_known (named_of scope h o).variables (named_typed scope h k o tree e), tt), tt);
+  named = λ scope h k o tree clause e. ((all_known (named_of scope h o).variables (named_typed scope h k o tree clause e), tt), tt);
   without = λ scope h k m made. (
     (all_known (first_of scope h).variables (first_typed scope h k), made.0),
     (class_knows scope h k, made.1),

@@ -12,6 +12,7 @@ use Rattle.ec_ast.specs.declared.Name.{Name}
 use Rattle.ec_ast.specs.declared.Span.{Span}
 use Rattle.ec_check.proofs.DistinctNames.{not_there}
 use Rattle.ec_check.proofs.Equations.{addend_step_of, factor_step_of}
+use Rattle.ec_check.proofs.Equations.{argument_step_of}
 use Rattle.ec_check.proofs.Every.{Every, none_left, none_right, not_both}
 use Rattle.ec_check.proofs.ReachedNames.{IsReached}
 use Rattle.ec_check.proofs.Rolled.{LinkLayer, link_mapped, link_rolled}
@@ -19,9 +20,11 @@ use Rattle.ec_check.proofs.Steps.{made_joined}
 use Rattle.ec_check.proofs.WellChains.{next_faults}
 use Rattle.ec_check.specs.Parts.{Made, both_made, Part, LinkPart, call, index, FactorPart, AddendPart, link_judged, factor_judged}
 use Rattle.ec_check.specs.Parts.{addend_judged}
+use Rattle.ec_check.specs.Parts.{ArgumentPart, values_of, marks_of}
 use Rattle.ec_check.specs.Places.{Env}
 use Rattle.ec_check.specs.Resolving.{all_made, cores_of, builtin_of, called, links_core, factor_core, addend_core, parts_of_links}
 use Rattle.ec_check.specs.Tree.{part_of, link_of, factor_of, addend_of, link_step}
+use Rattle.ec_check.specs.Tree.{argument_of}
 use Rattle.ec_types.specs.declared.conform.static_type.Plain.TheVariants.{Integer, Boolean, String, Any, Node, Named}
 use Rattle.ec_types.specs.declared.conform.static_type.StaticType.{StaticType}
 use Rattle.ec_types.specs.declared.conform.static_type.StaticType.TheVariants.{Plain, Vector, Nil, Unknown}
@@ -32,6 +35,7 @@ use Rattle.ec_core.specs.declared.Link.{Link as CoreLink}
 use Rattle.ec_core_laws.proofs.Ready.{Ready, first_ready, second_ready, PartTied, parts_tied, each_joined}
 use Rattle.ec_core_laws.proofs.CoreTiesTrees as trees
 use Rattle.ec_core_laws.proofs.Ready.{StatementTied, BlockTied}
+use Rattle.ec_core_laws.proofs.Ready.{ReadyParts}
 use Rattle.ec_core_laws.specs.Ties as ties
 use Rattle.ec_core_laws.specs.Ties.{AreTied, AreLinks, AreFactors, AreAddends, IsBuiltin}
 use Rattle.ec_rules.specs.Calls.{Receiver, Creation, Own, Typed, callee, callee_of_string, is_missing, is_word, link_type, faults_of_links}
@@ -45,6 +49,9 @@ use Rattle.ec_types.specs.declared.scopes.object.Object.{Object}
 use Rattle.ec_types.specs.declared.scopes.scope.Scope.{Scope}
 use Rattle.ec_types.specs.Scopes.{innermost}
 use Rattle.std.specs.Prelude.{codes}
+use Rattle.ec_ast.specs.declared.Argument.{Argument}
+use Rattle.ec_ast.specs.declared.Carried.{Carried}
+use Rattle.std.proofs.Math.Path.{ap₂}
 
 abbrev pub LinkTied : Link → Type 0
 LinkTied = trees.TreeLinkHas PartTied StatementTied BlockTied
@@ -54,6 +61,9 @@ FactorTied = trees.TreeFactorHas PartTied StatementTied BlockTied
 
 abbrev pub AddendTied : Addend → Type 0
 AddendTied = trees.TreeAddendHas PartTied StatementTied BlockTied
+
+abbrev ArgumentTied : Argument → Type 0
+ArgumentTied = trees.TreeArgumentHas PartTied StatementTied BlockTied
 
 -- ---- operands of products
 
@@ -143,9 +153,25 @@ builtin_named scope (Typed (Some of)) name e b is = type_named scope name of e b
 
 -- ---- calls and indices
 
-call_tied : (env : Env) (name : Name) (xs : List Expression) (links : List Link) (ys : List CoreExpression) (ks : List CoreLink)
+-- an argument is tied by its value
+same_values : (xs : List Argument) → map part_of (ties.values_of xs) ≡ values_of (map argument_of xs)
+same_values [] = refl
+same_values (x ∷ xs) = ap₂ ◌∷◌ (sym (ap (λ (a : ArgumentPart). a.value) (argument_step_of x))) (same_values xs)
+
+each_value : (xs : List Argument) → Every ArgumentTied xs → Every PartTied (ties.values_of xs)
+each_value [] h = tt
+each_value (x ∷ xs) h = (h.0, each_value xs h.1)
+
+pub arguments_tied : (xs : List Argument) → Every ArgumentTied xs → (env : Env) → ReadyParts env (values_of (map argument_of xs)) →
+    AreTied env (ties.values_of xs) (cores_of env (values_of (map argument_of xs)))
+    (all_made env.scope (values_of (map argument_of xs)))
+arguments_tied xs h env =
+    subst (λ ps. ReadyParts env ps → AreTied env (ties.values_of xs) (cores_of env ps) (all_made env.scope ps)) (same_values xs)
+    (parts_tied (ties.values_of xs) (each_value xs h) env)
+
+call_tied : (env : Env) (name : Name) (xs : List Argument) (links : List Link) (ys : List CoreExpression) (ks : List CoreLink)
     (result : Option StaticType) (m n : Made) (o : Option Builtin) → ((b : Builtin) → o ≡ Some b → IsBuiltin b name.text) →
-    AreTied env xs ys m → AreLinks env links ks n →
+    AreTied env (ties.values_of xs) ys m → AreLinks env links ks n →
     AreLinks env (tree_link.Call name xs ∷ links) (called o name ys result ∷ ks) (both_made m n)
 call_tied env name xs links ys ks result m n None h k g = ties.invoke k g
 call_tied env name xs links ys ks result m n (Some b) h k g = ties.call (h b refl) k g
@@ -203,7 +229,8 @@ module _ (env : Env) (head : Span) (needed : Bool) (before : Receiver) (xs : Lis
   link_tied : (y : LinkLayer) → trees.LinkLayerHas PartTied StatementTied BlockTied y →
       FirstLink env head needed before xs (roll-Link y) (link_step (link_mapped y))
   link_tied (Link-F.Call name arguments) h r =
-      let parts : List Part = map part_of arguments in
+      let parts : List Part = values_of (map argument_of arguments) in
+      let marks : List (Option Carried) = marks_of (map argument_of arguments) in
       subst (AreLinks env (roll-Link (Link-F.Call name arguments) ∷ xs) (links_core env before (call name parts marks ∷ map link_of xs)))
       (parts_joined env.scope parts (parts_of_links (map link_of xs)))
       (subst
@@ -214,7 +241,7 @@ module _ (env : Env) (head : Span) (needed : Bool) (before : Receiver) (xs : Lis
       (call_tied env name arguments xs (cores_of env parts) _ (result_of (callee env.scope before name)) _ _
       (builtin_of (type_of_receiver env.scope before) name)
       (builtin_named env.scope before name (not_there _ _ name.at (none_left _ _ (none_right _ _ (none_left _ _ r.faultless)))))
-      (parts_tied arguments h env (first_link env head needed before (call name parts marks) (map link_of xs) r))
+      (arguments_tied arguments h env (first_link env head needed before (call name parts marks) (map link_of xs) r))
       (later _ (later_links env head needed before (call name parts marks) (map link_of xs) r))))
   link_tied (Link-F.Index x at) h r =
       subst

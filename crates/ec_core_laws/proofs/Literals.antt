@@ -598,7 +598,7 @@ operations_short : (table : Table) (program : Program) → IsTable (declarations
 operations_short table program is none =
     each_operation table program ShortOperation is none
     (record {
-      named = λ scope h known o tree f.
+      named = λ scope h known o tree clause f.
           all_of IsShort (texts_of_block (named_of scope h o).block)
           (piece_short o.block tree (env_of_operation (env_of_body scope h) o) (block_faultless scope h o f));
       first = λ scope h known. all_of IsShort (texts_of_block (first_of scope h).block) (first_short scope h known);

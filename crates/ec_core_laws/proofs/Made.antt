@@ -11,6 +11,7 @@ use Rattle.ec_check.specs.Resolving.{all_made, arms_made, at_start, body_made, c
 use Rattle.ec_check.specs.Resolving.{field_stored, holder_made, initial_operation, initially_core, initially_made, just_operation}
 use Rattle.ec_check.specs.Resolving.{link_parts, member_made, members_made, number_of_holder, operation_core, parts_of_links, process_made}
 use Rattle.ec_check.specs.Resolving.{process_operation, statement_made, statements_made}
+use Rattle.ec_check.specs.Resolving.{blocks_made}
 use Rattle.ec_core.specs.declared.Block.{out-Block}
 use Rattle.ec_core.specs.declared.Place.TheVariants as place
 use Rattle.ec_core.specs.declared.Statement.TheOpen.{Statement-F as Core-F}
@@ -99,28 +100,29 @@ initial_fits class env h k =
     (all_fit texts_of_statement (fields ++ begins)
     (every_joined FitStatement fields begins (fields_fit start h.body.members k.0) (initially_fits start h.body.initially k.1)))
 
+block_if_fits : (scope : Scope) (b : Option Piece) → Where PieceHas b → MadeFits (initially_made scope b)
+block_if_fits scope None h = tt
+block_if_fits scope (Some b) h = h.1.1 scope
+
 member_fits : (class : ℕ) (env : Env) (m : MemberPart) → MemberHas m → MadeFits (member_made class env m)
 member_fits class env (variable is_attached name of None) h = tt
 member_fits class env (variable is_attached name of (Some x)) h = h.1.1 env.scope
 member_fits class env (constant is_attached name of x) h = h.1.1 env.scope
 member_fits class env (condition name) h = tt
 member_fits class env (operation o) h =
-    both_fit (just_operation (operation_core class env o)) (o.block.made (scope_of_operation env.scope (operation_judged o)))
-    (h.1.0 (env_of_operation env o), tt) (h.1.1 (scope_of_operation env.scope (operation_judged o)))
+    let inner : Scope = scope_of_operation env.scope (operation_judged o) in
+    both_fit (just_operation (operation_core class env o)) (blocks_made inner o) (h.0.1.0 (env_of_operation env o), tt)
+    (both_fit (o.block.made inner) (initially_made inner o.failure) (h.0.1.1 inner) (block_if_fits inner o.failure h.1))
 
 members_fit : (class : ℕ) (env : Env) (ms : List MemberPart) → Every MemberHas ms → MadeFits (members_made class env ms)
 members_fit class env [] h = tt
 members_fit class env (m ∷ ms) h =
     both_fit (member_made class env m) (members_made class env ms) (member_fits class env m h.0) (members_fit class env ms h.1)
 
-block_if_fits : (scope : Scope) (b : Option Piece) → Where PieceHas b → MadeFits (initially_made scope b)
-block_if_fits scope None h = tt
-block_if_fits scope (Some b) h = h.1.1 scope
+abbrev SectionHas : SectionPart → Type 0
+SectionHas = trees.SectionHas PartFits StatementFits PieceFits
 
-abbrev ProcessHas : SectionPart → Type 0
-ProcessHas = trees.ProcessHas PartFits StatementFits PieceFits
-
-process_fits : (class : ℕ) (env : Env) (name : Name) (p : Option SectionPart) → Where ProcessHas p →
+process_fits : (class : ℕ) (env : Env) (name : Name) (p : Option SectionPart) → Where SectionHas p →
     MadeFits (process_made class env name p)
 process_fits class env name None h = tt
 process_fits class env name (Some p) h =

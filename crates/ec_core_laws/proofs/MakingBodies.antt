@@ -18,7 +18,7 @@ use Rattle.ec_core.specs.declared.Expression.{Expression}
 use Rattle.ec_core.specs.declared.Place.TheVariants as place
 use Rattle.ec_core.specs.declared.Statement.TheOpen.{Statement-F as Core-F}
 use Rattle.ec_core.specs.declared.Statement.TheVariants as s
-use Rattle.ec_core_laws.proofs.MakingParts.{IsThere, Taken, OperationMakes, Makes, PieceHas, ProcessHas, MemberHas}
+use Rattle.ec_core_laws.proofs.MakingParts.{IsThere, Taken, OperationMakes, Makes, PieceHas, SectionHas, MemberHas}
 use Rattle.ec_core_laws.proofs.MakingParts.{BodyHas, first_taken, second_taken, none_make, both_make, same_make}
 use Rattle.ec_core_laws.proofs.MakingParts.{one_more}
 use Rattle.ec_core_laws.specs.Makings.{HoldsOneOfTwo, BeginsBare}
@@ -26,6 +26,17 @@ use Rattle.ec_rules.specs.Lists.{each}
 use Rattle.ec_rules.specs.Members.{scope_of_operation}
 use Rattle.ec_types.specs.declared.scopes.scope.Scope.{Scope}
 use Rattle.ec_types.specs.Scopes.{in_a_process}
+
+-- ---- a block, where there is one
+
+statements_of : (b : Block) → joined (map in_statement (out-Block b).statements) ≡ in_block b
+statements_of b = sym (ap in_block (sym (roll-out-Block b)) ∙ block_rolled (out-Block b))
+
+initially_makes : (classes : List Class) (env : Env) (b : Option Piece) → Where PieceHas b →
+    Taken classes env.scope.globals (initially_made env.scope b).classes →
+    Makes classes (joined (map in_statement (initially_core env b))) (initially_made env.scope b)
+initially_makes classes env None h t = none_make
+initially_makes classes env (Some b) h t = same_make (statements_of (b.core env)) (h.1 classes env t)
 
 -- ---- members: the values of the fields, and what is made within them
 
@@ -49,10 +60,24 @@ member_makes classes class env (constant is_attached name of x) h t =
 member_makes classes class env (condition name) h t = none_make
 member_makes classes class env (operation o) h t =
     let inner : Env = env_of_operation env o in
-    let block : Makes classes (in_block (o.block.core inner))
-    (o.block.made (scope_of_operation env.scope (operation_judged o))) =
-    h.1 classes inner (record { known = t.known; within = t.within }) in
-    record { numbers = tt; operations = ((block.numbers, tt), block.operations); holders = block.holders }
+    let scope : Scope = scope_of_operation env.scope (operation_judged o) in
+    let both : Taken classes scope.globals ((o.block.made scope).classes ++ (initially_made scope o.failure).classes) =
+    record { known = t.known; within = t.within } in
+    let block : Makes classes (in_block (o.block.core inner)) (o.block.made scope) =
+    h.0.1 classes inner (first_taken (o.block.made scope).classes (initially_made scope o.failure).classes both) in
+    let clause : Makes classes (joined (map in_statement (initially_core inner o.failure))) (initially_made scope o.failure) =
+    initially_makes classes inner o.failure h.1
+    (second_taken (o.block.made scope).classes (initially_made scope o.failure).classes both) in
+    record {
+      numbers = tt;
+      operations = (
+        (block.numbers, tt),
+        every_joined (OperationMakes classes) (o.block.made scope).operations (initially_made scope o.failure).operations
+            block.operations clause.operations,
+      );
+      holders =
+          every_joined HoldsOneOfTwo (o.block.made scope).classes (initially_made scope o.failure).classes block.holders clause.holders;
+    }
 
 members_make : (classes : List Class) (class : ℕ) (env : Env) (ms : List MemberPart) → Every MemberHas ms →
     Taken classes env.scope.globals (members_made class env ms).classes →
@@ -67,21 +92,12 @@ members_make classes class env (m ∷ ms) h t =
     (members_make classes class env ms h.1
     (second_taken (member_made class env m).classes (members_made class env ms).classes t)))
 
--- ---- the block that runs first, and the process section
-
-statements_of : (b : Block) → joined (map in_statement (out-Block b).statements) ≡ in_block b
-statements_of b = sym (ap in_block (sym (roll-out-Block b)) ∙ block_rolled (out-Block b))
-
-initially_makes : (classes : List Class) (env : Env) (b : Option Piece) → Where PieceHas b →
-    Taken classes env.scope.globals (initially_made env.scope b).classes →
-    Makes classes (joined (map in_statement (initially_core env b))) (initially_made env.scope b)
-initially_makes classes env None h t = none_make
-initially_makes classes env (Some b) h t = same_make (statements_of (b.core env)) (h.1 classes env t)
+-- ---- the process section
 
 process_is_bare : (class : ℕ) (env : Env) (name : Name) (p : SectionPart) → BeginsBare (process_operation class env name p)
 process_is_bare class env name p = record { parameters = refl; result = refl }
 
-process_makes : (classes : List Class) (class : ℕ) (env : Env) (name : Name) (p : Option SectionPart) → Where ProcessHas p →
+process_makes : (classes : List Class) (class : ℕ) (env : Env) (name : Name) (p : Option SectionPart) → Where SectionHas p →
     Taken classes env.scope.globals (process_made class env name p).classes →
     Makes classes [] (process_made class env name p)
 process_makes classes class env name None h t = none_make

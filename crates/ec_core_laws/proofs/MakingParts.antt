@@ -122,8 +122,8 @@ ArmHas = trees.ArmHas PartMakes StatementMakes PieceMakes
 abbrev pub PieceHas : Piece → Type 0
 PieceHas = trees.PieceHas PartMakes StatementMakes PieceMakes
 
-abbrev pub ProcessHas : SectionPart → Type 0
-ProcessHas = trees.ProcessHas PartMakes StatementMakes PieceMakes
+abbrev pub SectionHas : SectionPart → Type 0
+SectionHas = trees.SectionHas PartMakes StatementMakes PieceMakes
 
 abbrev pub OperationHas : OperationPart → Type 0
 OperationHas = trees.OperationHas PartMakes StatementMakes PieceMakes

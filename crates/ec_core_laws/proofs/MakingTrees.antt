@@ -14,15 +14,18 @@ use Rattle.ec_ast.specs.declared.Operation.{Operation, roll-Operation}
 use Rattle.ec_ast.specs.declared.Section.{Section, roll-Section}
 use Rattle.ec_ast.specs.declared.Statement.{Statement, roll-Statement}
 use Rattle.ec_check.proofs.Every.{Every}
+use Rattle.ec_check.proofs.Every.{each_within}
 use Rattle.ec_check.proofs.Rolled.{expression_mapped, link_mapped, member_mapped, statement_mapped, block_mapped}
 use Rattle.ec_check.proofs.Rolled.{body_mapped, part_rolled, link_rolled, member_rolled, statement_rolled, addend_rolled}
 use Rattle.ec_check.proofs.Rolled.{arm_rolled, block_rolled, body_rolled, factor_rolled, object_rolled, operation_rolled}
 use Rattle.ec_check.proofs.Rolled.{section_rolled}
+use Rattle.ec_check.proofs.Rolled.{argument_rolled, operation_mapped}
 use Rattle.ec_check.specs.Tree.{link_step, member_step, body_step, part_of, link_of, member_of, statement_of, addend_of}
 use Rattle.ec_check.specs.Tree.{arm_of, block_of, body_of, factor_of, object_of, operation_of, section_of}
+use Rattle.ec_check.specs.Tree.{argument_of, operation_step}
 use Rattle.ec_core_laws.proofs.MakingExpressions.{HasNoParameters, expression_makes}
 use Rattle.ec_core_laws.proofs.MakingParts.{PartMakes, StatementMakes, PieceMakes, PartHas, LinkHas, FactorHas}
-use Rattle.ec_core_laws.proofs.MakingParts.{AddendHas, ArmHas, PieceHas, ProcessHas, OperationHas, MemberHas, BodyHas}
+use Rattle.ec_core_laws.proofs.MakingParts.{AddendHas, ArmHas, PieceHas, SectionHas, OperationHas, MemberHas, BodyHas}
 use Rattle.ec_core_laws.proofs.MakingParts.{ObjectHas, ExpressionHas, StatementHas}
 use Rattle.ec_core_laws.proofs.MakingStatements.{statement_makes, block_makes}
 use Rattle.ec_ast.proofs.Claims.{Claims, Passes, Held, trees as bare_trees, ExpressionWith, LinkWith, MemberWith}
@@ -30,6 +33,9 @@ use Rattle.ec_ast.proofs.Claims.{StatementWith, AddendWith, ArmWith, BlockWith, 
 use Rattle.ec_ast.proofs.Claims.{OperationWith, SectionWith, bare_expression, bare_link, bare_member, bare_statement}
 use Rattle.ec_ast.proofs.Claims.{bare_addend, bare_arm, bare_block, bare_body, bare_factor, bare_object}
 use Rattle.ec_ast.proofs.Claims.{bare_operation, bare_section, expression_holds, body_holds}
+use Rattle.ec_ast.proofs.Claims.{ArgumentWith, bare_argument}
+use Rattle.ec_ast.specs.declared.Argument.{Argument, roll-Argument}
+use Rattle.ec_ast.specs.declared.Span.{Span}
 
 -- ---- what is claimed of each part of a tree
 
@@ -47,6 +53,9 @@ MakingStatement x = StatementMakes (statement_of x)
 
 abbrev MakingAddend : Addend → Type 0
 MakingAddend x = AddendHas (addend_of x)
+
+abbrev MakingArgument : Argument → Type 0
+MakingArgument x = PartHas (argument_of x).value
 
 abbrev MakingArm : Arm → Type 0
 MakingArm x = ArmHas (arm_of x)
@@ -66,8 +75,8 @@ MakingObject x = ObjectHas (object_of x)
 abbrev MakingOperation : Operation → Type 0
 MakingOperation x = OperationHas (operation_of x)
 
-abbrev MakingProcess : Section → Type 0
-MakingProcess x = ProcessHas (section_of x)
+abbrev MakingSection : Section → Type 0
+MakingSection x = SectionHas (section_of x)
 
 abbrev making : Claims
 making = record {
@@ -76,13 +85,14 @@ making = record {
   member = MakingMember;
   statement = MakingStatement;
   addend = MakingAddend;
+  argument = MakingArgument;
   arm = MakingArm;
   block = MakingBlock;
   body = MakingBody;
   factor = MakingFactor;
   object = MakingObject;
   operation = MakingOperation;
-  section = MakingProcess;
+  section = MakingSection;
 }
 
 -- what is claimed of each tree of a list
@@ -186,11 +196,14 @@ block_at y = (
 -- ---- links, factors and addends
 
 link_is : (y : LinkWith making) → LinkHas (link_step (link_mapped (bare_link making y)))
-link_is (Link-F.Call name xs) = each_held part_of PartHas xs
+link_is (Link-F.Call name xs) = each_within argument_of (λ a. a.value) PartHas xs
 link_is (Link-F.Index x at) = x.1
 
 link_at : (y : LinkWith making) → MakingLink (roll-Link (bare_link making y))
 link_at y = subst LinkHas (sym (link_rolled (bare_link making y))) (link_is y)
+
+argument_at : (y : ArgumentWith making) → MakingArgument (roll-Argument (bare_argument making y))
+argument_at y = subst (λ a. PartHas a.value) (sym (argument_rolled (bare_argument making y))) y.value.1
 
 factor_at : (y : FactorWith making) → MakingFactor (roll-Factor (bare_factor making y))
 factor_at y = subst FactorHas (sym (factor_rolled (bare_factor making y))) y.value.1
@@ -210,24 +223,32 @@ member_is (Member-F.Operation o) = o.1
 member_at : (y : MemberWith making) → MakingMember (roll-Member (bare_member making y))
 member_at y = subst MemberHas (sym (member_rolled (bare_member making y))) (member_is y)
 
+abbrev with_failure : OperationWith making → Option (Held MakingSection) → OperationWith making
+with_failure y failure = record y { failure = failure }
+
+operation_is : (y : OperationWith making) (failure : Option (Held MakingSection)) →
+    OperationHas (operation_step (operation_mapped (bare_operation making (with_failure y failure))))
+operation_is y None = (y.block.1, tt)
+operation_is y (Some c) = (y.block.1, c.1)
+
 operation_at : (y : OperationWith making) → MakingOperation (roll-Operation (bare_operation making y))
-operation_at y = subst OperationHas (sym (operation_rolled (bare_operation making y))) y.block.1
+operation_at y = subst OperationHas (sym (operation_rolled (bare_operation making y))) (operation_is y y.failure)
 
-process_at : (y : SectionWith making) → MakingProcess (roll-Section (bare_section making y))
-process_at y = subst ProcessHas (sym (section_rolled (bare_section making y))) y.block.1
+section_at : (y : SectionWith making) → MakingSection (roll-Section (bare_section making y))
+section_at y = subst SectionHas (sym (section_rolled (bare_section making y))) y.block.1
 
-abbrev body_layer : List (Held MakingMember) → Option (Held MakingBlock) → Option (Held MakingProcess) → BodyWith making
-body_layer ms i p = record { members = ms; initially = i; process = p }
+abbrev body_layer : List (Held MakingMember) → Option (Held MakingSection) → Option (Held MakingSection) → Span → BodyWith making
+body_layer ms i p at = record { members = ms; initially = i; process = p; end_at = at }
 
-body_is : (ms : List (Held MakingMember)) (i : Option (Held MakingBlock)) (p : Option (Held MakingProcess)) →
-    BodyHas (body_step (body_mapped (bare_body making (body_layer ms i p))))
-body_is ms None None = (each_held member_of MemberHas ms, tt, tt)
-body_is ms None (Some p) = (each_held member_of MemberHas ms, tt, p.1)
-body_is ms (Some i) None = (each_held member_of MemberHas ms, i.1, tt)
-body_is ms (Some i) (Some p) = (each_held member_of MemberHas ms, i.1, p.1)
+body_is : (ms : List (Held MakingMember)) (i p : Option (Held MakingSection)) (at : Span) →
+    BodyHas (body_step (body_mapped (bare_body making (body_layer ms i p at))))
+body_is ms None None at = (each_held member_of MemberHas ms, tt, tt)
+body_is ms None (Some p) at = (each_held member_of MemberHas ms, tt, p.1)
+body_is ms (Some i) None at = (each_held member_of MemberHas ms, i.1, tt)
+body_is ms (Some i) (Some p) at = (each_held member_of MemberHas ms, i.1, p.1)
 
 body_at : (y : BodyWith making) → MakingBody (roll-Body (bare_body making y))
-body_at y = subst BodyHas (sym (body_rolled (bare_body making y))) (body_is y.members y.initially y.process)
+body_at y = subst BodyHas (sym (body_rolled (bare_body making y))) (body_is y.members y.initially y.process y.end_at)
 
 object_at : (y : ObjectWith making) → MakingObject (roll-ObjectConstructor (bare_object making y))
 object_at y = subst ObjectHas (sym (object_rolled (bare_object making y))) (((y.body.0, refl), y.body.1), refl)
@@ -241,13 +262,14 @@ passes = record {
   member = member_at;
   statement = statement_at;
   addend = addend_at;
+  argument = argument_at;
   arm = arm_at;
   block = block_at;
   body = body_at;
   factor = factor_at;
   object = object_at;
   operation = operation_at;
-  section = process_at;
+  section = section_at;
 }
 
 pub making_part : (x : Expression) → MakingExpression x

@@ -23,6 +23,7 @@ use Rattle.ec_check.specs.Parts.{member_judged, operation_judged, section_judged
 use Rattle.ec_check.specs.Resolving.{operation_core, initial_operation, process_operation, just_operation, just_class, class_core}
 use Rattle.ec_check.specs.Resolving.{number_of_holder, env_of_body, holder_made, member_made, members_made, process_made, initially_made}
 use Rattle.ec_check.specs.Resolving.{all_made, arms_made, expression_made, statement_made, statements_made, parts_of_links, chain_parts}
+use Rattle.ec_check.specs.Resolving.{blocks_made}
 use Rattle.ec_check.specs.Tree.{expression_step, statement_step, block_step, part_of, body_of}
 use Rattle.ec_core.specs.declared.Class.{Class}
 use Rattle.ec_core.specs.declared.Operation.{Operation}
@@ -32,10 +33,12 @@ use Rattle.ec_core_laws.proofs.Trees as trees
 use Rattle.ec_rules.specs.Calls.{Receiver, Creation, Own, Typed, receiver, faults_of_head}
 use Rattle.ec_rules.specs.Judging.{expression_part, statement_part, statement_finished, faults_of, faults_in_holder, block_finished}
 use Rattle.ec_rules.specs.Judging.{member_finished, members_finished, finished_if, process_finished}
+use Rattle.ec_rules.specs.Judging.{clause_finished}
 use Rattle.ec_rules.specs.Lists.{each}
 use Rattle.ec_rules.specs.Members.{scope_of, scope_of_operation}
 use Rattle.ec_rules.specs.Parts as judged
 use Rattle.ec_rules.specs.Parts.{faults_in}
+use Rattle.ec_rules.specs.Parts.{Finished}
 use Rattle.ec_rules.specs.Rules.{is_clean}
 use Rattle.ec_rules.specs.Statements.{piece_of_arm, pieces_of_block}
 use Rattle.ec_rules.specs.declared.StaticFault.{StaticFault}
@@ -91,7 +94,7 @@ pub record Steps (classes : List Class) (M : Made → Type 0) : Type 0 where
   pub nothing : M nothing_made
   pub both : (a b : Made) → M a → M b → M (both_made a b)
   pub named : (scope : Scope) (h : Holder) → Known classes scope h → (o : OperationPart) → IsPiece o.block →
-      OperationFaultless scope h o → M (just_operation (named_of scope h o))
+      Where IsPiece o.failure → OperationFaultless scope h o → M (just_operation (named_of scope h o))
   pub without : (scope : Scope) (h : Holder) → Known classes scope h → (m : Made) → M m → M (holder_with scope h m)
   pub section : (scope : Scope) (h : Holder) → Known classes scope h → (p : SectionPart) → IsPiece p.block →
       ProcessFaultless scope h p → (m n : Made) → M m → M n → M (holder_with scope h (both_made m (process_with scope h p n)))
@@ -159,8 +162,8 @@ module _ (classes : List Class) (M : Made → Type 0) (steps : Steps classes M) 
   abbrev MemberHas : MemberPart → Type 0
   MemberHas = trees.MemberHas PartMade StatementMade PieceMade
 
-  abbrev ProcessHas : SectionPart → Type 0
-  ProcessHas = trees.ProcessHas PartMade StatementMade PieceMade
+  abbrev SectionHas : SectionPart → Type 0
+  SectionHas = trees.SectionHas PartMade StatementMade PieceMade
 
   abbrev ArmHas : ArmPart → Type 0
   ArmHas = trees.ArmHas PartMade StatementMade PieceMade
@@ -190,6 +193,16 @@ module _ (classes : List Class) (M : Made → Type 0) (steps : Steps classes M) 
 
   -- ---- members
 
+  clause_tree : (b : Option Piece) → Where PieceHas b → Where IsPiece b
+  clause_tree None h = tt
+  clause_tree (Some b) h = h.0
+
+  clause_has_made : (scope : Scope) (b : Option Piece) → SoundScope scope → Where PieceHas b →
+      Taken classes (clause_finished scope (option_map (λ p. p.piece) b)).faults (initially_made scope b).classes →
+      M (initially_made scope b)
+  clause_has_made scope None s h t = steps.nothing
+  clause_has_made scope (Some b) s h t = h.1 scope s (record { faultless = t.faultless; within = t.within })
+
   member_has_made : (scope : Scope) (h : Holder) → Known classes scope h → (m : MemberPart) → MemberHas m →
       Taken classes (member_finished (scope_in scope h) h.is_monitored (member_judged m)).faults
       (member_made (number_of_holder scope h) (env_of_body scope h) m).classes →
@@ -201,11 +214,21 @@ module _ (classes : List Class) (M : Made → Type 0) (steps : Steps classes M) 
       m.1 true (scope_in scope h) (sound_in scope h k) (taken_within _ _ t)
   member_has_made scope h k (condition name) m t = steps.nothing
   member_has_made scope h k (operation o) m t =
-      steps.both (just_operation (named_of scope h o)) (o.block.made (scope_of_operation (scope_in scope h) (operation_judged o)))
-      (steps.named scope h k o m.0 t.faultless)
-      (m.1 (scope_of_operation (scope_in scope h) (operation_judged o))
-      (sound_in_operation (scope_in scope h) (operation_judged o) (sound_in scope h k) (none_left _ _ (none_right _ _ t.faultless)))
-      (record { faultless = none_left _ _ (none_left _ _ t.faultless); within = t.within }))
+      let inner : Scope = scope_of_operation (scope_in scope h) (operation_judged o) in
+      let sound : SoundScope inner =
+      sound_in_operation (scope_in scope h) (operation_judged o) (sound_in scope h k) (none_left _ _ (none_right _ _ t.faultless)) in
+      let clause : Finished = clause_finished inner (option_map (λ p. p.piece) o.failure) in
+      let both : Taken classes ((o.block.piece inner).faults ++ clause.faults)
+      ((o.block.made inner).classes ++ (initially_made inner o.failure).classes) =
+      record { faultless = none_left _ _ (none_left _ _ t.faultless); within = t.within } in
+      steps.both (just_operation (named_of scope h o)) (blocks_made inner o)
+      (steps.named scope h k o m.0.0 (clause_tree o.failure m.1) t.faultless)
+      (steps.both (o.block.made inner) (initially_made inner o.failure)
+      (m.0.1 inner sound
+      (first_taken (o.block.piece inner).faults clause.faults (o.block.made inner).classes (initially_made inner o.failure).classes both))
+      (clause_has_made inner o.failure sound m.1
+      (second_taken (o.block.piece inner).faults clause.faults (o.block.made inner).classes (initially_made inner o.failure).classes
+      both)))
 
   members_have_made : (scope : Scope) (h : Holder) → Known classes scope h → (ms : List MemberPart) → Every MemberHas ms →
       Taken classes (members_finished (scope_in scope h) h.is_monitored (map member_judged ms)).faults
@@ -240,7 +263,7 @@ module _ (classes : List Class) (M : Made → Type 0) (steps : Steps classes M) 
   abbrev initially_of : Scope → Holder → Made
   initially_of scope h = initially_made (scope_in scope h) h.body.initially
 
-  with_process : (scope : Scope) (h : Holder) → Known classes scope h → (p : Option SectionPart) → Where ProcessHas p →
+  with_process : (scope : Scope) (h : Holder) → Known classes scope h → (p : Option SectionPart) → Where SectionHas p →
       Taken classes (process_finished (scope_in scope h) (option_map section_judged p)).faults
       (process_made (number_of_holder scope h) (env_of_body scope h) h.name p).classes →
       M (members_of scope h) → M (initially_of scope h) →

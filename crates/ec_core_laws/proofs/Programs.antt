@@ -8,6 +8,7 @@ use Rattle.ec_ast.specs.declared.Name.{Name}
 use Rattle.ec_ast.specs.declared.Program.{Program}
 use Rattle.ec_ast.specs.declared.TypeName.{TypeName}
 use Rattle.ec_check.proofs.Every.{Every, every_joined, every_left, every_right, every_unmap, all_of, none_left, none_each}
+use Rattle.ec_check.proofs.Every.{Where}
 use Rattle.ec_check.proofs.Fusion.{same_part, same_class}
 use Rattle.ec_check.proofs.RangedPrograms.{none_in_order, each_contained}
 use Rattle.ec_check.proofs.SoundPrograms.{outermost_is_sound}
@@ -71,7 +72,7 @@ made_holds table program M is none steps =
 
 pub record EachStep (classes : List Class) (Q : Operation → Type 0) : Type 0 where
   pub named : (scope : Scope) (h : Holder) → Known classes scope h → (o : OperationPart) → IsPiece o.block →
-      OperationFaultless scope h o → Q (named_of scope h o)
+      Where IsPiece o.failure → OperationFaultless scope h o → Q (named_of scope h o)
   pub first : (scope : Scope) (h : Holder) → Known classes scope h → Q (first_of scope h)
   pub process : (scope : Scope) (h : Holder) → Known classes scope h → (p : SectionPart) → IsPiece p.block →
       ProcessFaultless scope h p → Q (section_of scope h p)
@@ -84,7 +85,7 @@ module _ (classes : List Class) (Q : Operation → Type 0) (each : EachStep clas
   each_steps = record {
     nothing = tt;
     both = λ a b h k. every_joined Q a.operations b.operations h k;
-    named = λ scope h known o tree e. (each.named scope h known o tree e, tt);
+    named = λ scope h known o tree clause e. (each.named scope h known o tree clause e, tt);
     without = λ scope h known m k. (each.first scope h known, k);
     section = λ scope h known p tree e m n k l. (
       each.first scope h known,

@@ -12,6 +12,7 @@ use Rattle.ec_check.specs.Resolving.{at_start, body_made, captures_of, class_cor
 use Rattle.ec_check.specs.Resolving.{field_stored, heading_types, holder_made, initial_block, initial_operation, initially_core}
 use Rattle.ec_check.specs.Resolving.{initially_made, just_class, just_operation, locals_of_block, member_made, members_made}
 use Rattle.ec_check.specs.Resolving.{number_of_holder, operation_core, parameter_field, process_made, process_operation}
+use Rattle.ec_check.specs.Resolving.{locals_of_blocks, blocks_made}
 use Rattle.ec_core.specs.declared.Block.{out-Block}
 use Rattle.ec_core.specs.declared.Field.{Field}
 use Rattle.ec_core.specs.declared.Place.TheVariants as place
@@ -22,8 +23,9 @@ use Rattle.ec_core_laws.proofs.Statements.{block_is, statements_are}
 use Rattle.ec_core_laws.proofs.Scopes.{EntryBelow, NamesFit, ScopeBelow, ObjectBelow, below_in_a_process}
 use Rattle.ec_core_laws.proofs.Scopes.{below_in_operation, below_within, constant_below, found_below, heading_below}
 use Rattle.ec_core_laws.proofs.Scopes.{parameters_below, written_below}
-use Rattle.ec_core_laws.proofs.ShapedParts.{PieceHas, ProcessHas, MemberHas, BodyHas, all_shaped, each_shaped, first_numbers}
+use Rattle.ec_core_laws.proofs.ShapedParts.{PieceHas, SectionHas, MemberHas, BodyHas, all_shaped, each_shaped, first_numbers}
 use Rattle.ec_core_laws.proofs.ShapedParts.{second_numbers, nothing_shaped, both_shaped}
+use Rattle.ec_core_laws.proofs.ShapedParts.{OperationHas}
 use Rattle.ec_core_laws.proofs.ShapedStatements.{has}
 use Rattle.ec_core_laws.proofs.Shapes.{statement_shaped, arm_shaped, block_shaped, shaped_statement, shaped_block}
 use Rattle.ec_core_laws.proofs.Shapes.{IsShapedStatement, OperationShaped, ClassBelow, MadeShaped, NumbersBelow}
@@ -199,17 +201,20 @@ module _ (types : ℕ) where
 
   -- ---- members and the process section, in the scope of the body
 
-  one_operation : (class : ℕ) (env : Env) (o : OperationPart) → ScopeBelow types env.scope → PieceHas types o.block →
-      NumbersBelow types (o.block.made (scope_of_operation env.scope (operation_judged o))) →
+  one_operation : (class : ℕ) (env : Env) (o : OperationPart) → ScopeBelow types env.scope → OperationHas types o →
+      NumbersBelow types (blocks_made (scope_of_operation env.scope (operation_judged o)) o) →
       OperationShaped types (operation_core class env o)
   one_operation class env o s h n =
       let inner : Scope = scope_of_operation env.scope (operation_judged o) in
+      let below : ScopeBelow types inner = below_in_operation types env.scope (operation_judged o) s in
       record {
-        block = h.1.core (env_of_operation env o) s.names;
+        block = h.0.1.core (env_of_operation env o) s.names;
         variables =
-            every_joined (IsBelow types) (heading_types env.scope o.parameters o.result) (o.block.locals inner)
+            every_joined (IsBelow types) (heading_types env.scope o.parameters o.result) (locals_of_blocks inner o)
             (heading_below types env.scope s.names o.parameters o.result)
-            (h.1.locals inner (below_in_operation types env.scope (operation_judged o) s) n);
+            (every_joined (IsBelow types) (o.block.locals inner) (locals_of_block inner o.failure)
+            (h.0.1.locals inner below (first_numbers types (o.block.made inner) (initially_made inner o.failure) n))
+            (block_locals inner below o.failure h.1 (second_numbers types (o.block.made inner) (initially_made inner o.failure) n)));
       }
 
   member_shaped : (class : ℕ) (env : Env) → ScopeBelow types env.scope → (m : MemberPart) → MemberHas types m →
@@ -220,9 +225,12 @@ module _ (types : ℕ) where
   member_shaped class env s (condition name) h n = nothing_shaped types
   member_shaped class env s (operation o) h n =
       let inner : Scope = scope_of_operation env.scope (operation_judged o) in
-      both_shaped types (just_operation (operation_core class env o)) (o.block.made inner)
+      let below : ScopeBelow types inner = below_in_operation types env.scope (operation_judged o) s in
+      both_shaped types (just_operation (operation_core class env o)) (blocks_made inner o)
       (record { operations = (one_operation class env o s h n, tt); classes = tt })
-      (h.1.made inner (below_in_operation types env.scope (operation_judged o) s) n)
+      (both_shaped types (o.block.made inner) (initially_made inner o.failure)
+      (h.0.1.made inner below (first_numbers types (o.block.made inner) (initially_made inner o.failure) n))
+      (block_if_shaped inner below o.failure h.1 (second_numbers types (o.block.made inner) (initially_made inner o.failure) n)))
 
   members_shaped : (class : ℕ) (env : Env) → ScopeBelow types env.scope → (ms : List MemberPart) → Every (MemberHas types) ms →
       NumbersBelow types (members_made class env ms) → MadeShaped types (members_made class env ms)
@@ -233,7 +241,7 @@ module _ (types : ℕ) where
       (members_shaped class env s ms h.1 (second_numbers types (member_made class env m) (members_made class env ms) n))
 
   process_shaped : (class : ℕ) (env : Env) (name : Name) → ScopeBelow types env.scope → (p : Option SectionPart) →
-      Where (ProcessHas types) p → NumbersBelow types (process_made class env name p) →
+      Where (SectionHas types) p → NumbersBelow types (process_made class env name p) →
       MadeShaped types (process_made class env name p)
   process_shaped class env name s None h n = nothing_shaped types
   process_shaped class env name s (Some p) h n =

@@ -5,6 +5,7 @@ use Rattle.ec_check.proofs.Every.{Every, every_joined, every_left, every_right, 
 use Rattle.ec_check.proofs.WellValues.{both_hold}
 use Rattle.ec_check.specs.Parts.{Made, Part, Piece, StatementPart, LinkPart, FactorPart, AddendPart, ArmPart, SectionPart, MemberPart}
 use Rattle.ec_check.specs.Parts.{BodyPart, AnExpression, AStatement, nothing_made, both_made}
+use Rattle.ec_check.specs.Parts.{OperationPart}
 use Rattle.ec_check.specs.Places.{Env}
 use Rattle.ec_core_laws.proofs.Trees as trees
 use Rattle.ec_core_laws.proofs.Scopes.{EntryBelow, NamesFit, ScopeBelow, FormBelow}
@@ -49,8 +50,11 @@ ArmHas types = trees.ArmHas (PartShaped types) (StatementShaped types) (PieceSha
 abbrev pub PieceHas : ℕ → Piece → Type 0
 PieceHas types = trees.PieceHas (PartShaped types) (StatementShaped types) (PieceShaped types)
 
-abbrev pub ProcessHas : ℕ → SectionPart → Type 0
-ProcessHas types = trees.ProcessHas (PartShaped types) (StatementShaped types) (PieceShaped types)
+abbrev pub SectionHas : ℕ → SectionPart → Type 0
+SectionHas types = trees.SectionHas (PartShaped types) (StatementShaped types) (PieceShaped types)
+
+abbrev pub OperationHas : ℕ → OperationPart → Type 0
+OperationHas types = trees.OperationHas (PartShaped types) (StatementShaped types) (PieceShaped types)
 
 abbrev pub MemberHas : ℕ → MemberPart → Type 0
 MemberHas types = trees.MemberHas (PartShaped types) (StatementShaped types) (PieceShaped types)

@@ -22,8 +22,10 @@ use Rattle.ec_rules.specs.Calls.{Receiver, link_parts, is_last, faults_of_links,
 use Rattle.ec_rules.specs.Calls.{faults_of_head, chain_faults}
 use Rattle.ec_rules.specs.Forms.{Form, Literal, Negated, Constructor, Vector, Created, Itself, NameAlone, Other}
 use Rattle.ec_rules.specs.Judging.{member_finished, members_finished, finished_if, process_finished, faults_in_holder}
+use Rattle.ec_rules.specs.Judging.{clause_finished}
 use Rattle.ec_rules.specs.Lists.{each, each_of}
 use Rattle.ec_rules.specs.Members.{scope_of}
+use Rattle.ec_rules.specs.Members.{scope_of_operation}
 use Rattle.ec_rules.specs.Names.{unknown_in_operation, unknown_in_parameters, unknown_in_signature, unknown_types}
 use Rattle.ec_rules.specs.Parts as judged
 use Rattle.ec_rules.specs.Parts.{faults_in, value_in}
@@ -68,8 +70,11 @@ KnowingPiece b d = (scope : Scope) → (b.piece scope).faults ≡ [] → KnowsTy
 abbrev pub KnowingStatement : StatementPart → Declarations → Type 0
 KnowingStatement x d = (scope : Scope) → (x.part.finished scope).faults ≡ [] → KnowsTypes scope.table d
 
-abbrev pub KnowingProcess : SectionPart → Declarations → Type 0
-KnowingProcess p d = (scope : Scope) → (process_finished scope (Some (section_judged p))).faults ≡ [] → KnowsTypes scope.table d
+abbrev pub KnowingSection : SectionPart → conform.SectionPart → Type 0
+KnowingSection p d = KnowingPiece p.block d.within
+
+abbrev pub KnowingClause : Option Piece → Declarations → Type 0
+KnowingClause b d = (scope : Scope) → (clause_finished scope (option_map (λ p. p.piece) b)).faults ≡ [] → KnowsTypes scope.table d
 
 -- of a member
 pub record KnowsMember (table : Table) (m : conform.MemberPart) : Type 0 where
@@ -224,17 +229,21 @@ signature_known table name ps result e =
     (parameters_known table ps (none_left _ _ e)) (result_known table result (none_right _ _ e))
 
 -- what an operation has for others, where it is exported
-pub operation_declares : (scope : Scope) (is_monitored is_exported : Bool) (o : OperationPart) (d : Declarations) →
-    KnowingPiece o.block d → (member_finished scope is_monitored (judged.operation (operation_judged o))).faults ≡ [] →
+pub operation_declares : (scope : Scope) (is_monitored is_exported : Bool) (o : OperationPart) (d c : Declarations) →
+    KnowingPiece o.block d → KnowingClause o.failure c →
+    (member_finished scope is_monitored (judged.operation (operation_judged o))).faults ≡ [] →
     KnowsMember scope.table
     (record {
       name = o.name.text;
       operations = if is_exported then signature_with o.name o.parameters o.result ∷ [] else [];
-      within = operation_at o.name.at d;
+      within = operation_at o.name.at (both d c);
     })
-operation_declares scope is_monitored is_exported o d h e = record {
+operation_declares scope is_monitored is_exported o d c h k e = record {
   operations =
       either (Every (KnownSignature scope.table)) is_exported (signature_with o.name o.parameters o.result ∷ []) []
       (signature_known scope.table o.name o.parameters o.result (none_left _ _ (none_right _ _ e)), tt) tt;
-  within = h _ (none_left _ _ (none_left _ _ e));
+  within =
+      let inner : Scope = scope_of_operation scope (operation_judged o) in
+      both_known scope.table d c (h inner (none_left _ _ (none_left _ _ (none_left _ _ e))))
+      (k inner (none_right _ _ (none_left _ _ (none_left _ _ e))));
 }

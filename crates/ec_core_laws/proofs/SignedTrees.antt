@@ -22,19 +22,24 @@ use Rattle.ec_check.proofs.Rolled.{expression_mapped, link_mapped, member_mapped
 use Rattle.ec_check.proofs.Rolled.{body_mapped, factor_mapped, object_mapped, operation_mapped, section_mapped}
 use Rattle.ec_check.proofs.Rolled.{part_rolled, link_rolled, member_rolled, statement_rolled, addend_rolled, arm_rolled, block_rolled}
 use Rattle.ec_check.proofs.Rolled.{body_rolled, factor_rolled, object_rolled, operation_rolled, section_rolled}
+use Rattle.ec_check.proofs.Rolled.{argument_rolled}
 use Rattle.ec_check.specs.Layers.{expression_judged, statement_judged}
 use Rattle.ec_check.specs.Parts.{StatementPart, factor_judged, addend_judged, arm_judged, member_judged}
+use Rattle.ec_check.specs.Parts.{values_of, OperationPart}
 use Rattle.ec_check.specs.Tree.{expression_step, link_step, member_step, statement_step, addend_step, arm_step, block_step, body_step}
 use Rattle.ec_check.specs.Tree.{factor_step, object_step, operation_step, section_step}
 use Rattle.ec_check.specs.Tree.{part_of, link_of, member_of, statement_of, addend_of, arm_of, block_of, body_of, factor_of}
 use Rattle.ec_check.specs.Tree.{object_of, operation_of, section_of}
+use Rattle.ec_check.specs.Tree.{argument_of}
 use Rattle.ec_types.specs.Declarations as conform
 use Rattle.ec_types.specs.Declarations.{both, joined, nothing, within_members, in_expression, in_link, in_member, in_statement}
-use Rattle.ec_types.specs.Declarations.{in_addend, in_arm, in_block, in_body, in_factor, in_constructor, in_process}
+use Rattle.ec_types.specs.Declarations.{in_addend, in_arm, in_block, in_body, in_factor, in_constructor, in_section}
+use Rattle.ec_types.specs.Declarations.{in_argument}
+use Rattle.ec_types.specs.Declarations.{operation_at}
 use Rattle.ec_types.specs.declared.conform.declared.Declarations.{Declarations}
 use Rattle.ec_core_laws.proofs.Signatures as signatures
 use Rattle.ec_core_laws.proofs.Signatures.{KnowsTypes, KnowsMember, KnowsBody, KnowingPart, KnowingLink, KnowingFactor, KnowingAddend}
-use Rattle.ec_core_laws.proofs.Signatures.{KnowingArm, KnowingPiece, KnowingStatement, KnowingProcess, KnowingMember}
+use Rattle.ec_core_laws.proofs.Signatures.{KnowingArm, KnowingPiece, KnowingStatement, KnowingSection, KnowingMember}
 use Rattle.ec_core_laws.proofs.Signatures.{KnowingOperation, KnowingBody, KnowingObject, both_known, joined_known, parts_declare}
 use Rattle.ec_core_laws.proofs.Signatures.{values_declare, postfix_declares, within_members_known, members_declare, holder_declares}
 use Rattle.ec_places.proofs.DeclaredRolled.{expression_declared, link_declared, member_declared, statement_declared, addend_declared}
@@ -43,6 +48,7 @@ use Rattle.ec_places.proofs.DeclaredRolled.{operation_declared, section_declared
 use Rattle.ec_places.proofs.DeclaredRolled.{expression_declares, link_declares, member_declares, statement_declares, addend_declares}
 use Rattle.ec_places.proofs.DeclaredRolled.{arm_declares, block_declares, body_declares, factor_declares, object_declares}
 use Rattle.ec_places.proofs.DeclaredRolled.{operation_declares, section_declares}
+use Rattle.ec_places.proofs.DeclaredRolled.{argument_declares}
 use Rattle.ec_rules.specs.Judging.{expression_part, statement_part, faults_of, statement_finished, block_finished, members_finished}
 use Rattle.ec_rules.specs.Parts as judged
 use Rattle.ec_rules.specs.Statements.{piece_of_arm}
@@ -52,6 +58,9 @@ use Rattle.ec_ast.proofs.Claims.{Claims, Passes, Held, trees, ExpressionWith, Li
 use Rattle.ec_ast.proofs.Claims.{ArmWith, BlockWith, BodyWith, FactorWith, ObjectWith, OperationWith, SectionWith}
 use Rattle.ec_ast.proofs.Claims.{bare_expression, bare_link, bare_member, bare_statement, bare_addend, bare_arm, bare_block}
 use Rattle.ec_ast.proofs.Claims.{bare_body, bare_factor, bare_object, bare_operation, bare_section, expression_holds, body_holds}
+use Rattle.ec_ast.proofs.Claims.{ArgumentWith, bare_argument}
+use Rattle.ec_ast.specs.declared.Argument.{Argument, roll-Argument}
+use Rattle.ec_ast.specs.declared.Span.{Span}
 
 -- ---- what is claimed of a part of each kind
 
@@ -69,6 +78,9 @@ IsKnowingStatement x = KnowingStatement (statement_of x) (in_statement x)
 
 abbrev IsKnowingAddend : Addend → Type 0
 IsKnowingAddend x = KnowingAddend (addend_of x) (in_addend x)
+
+abbrev IsKnowingArgument : Argument → Type 0
+IsKnowingArgument x = KnowingPart (argument_of x).value (in_argument x)
 
 abbrev IsKnowingArm : Arm → Type 0
 IsKnowingArm x = KnowingArm (arm_of x) (in_arm x)
@@ -88,8 +100,8 @@ IsKnowingObject x = KnowingObject (object_of x) (in_constructor x)
 abbrev IsKnowingOperation : Operation → Type 0
 IsKnowingOperation x = KnowingOperation (operation_of x) (in_operation x)
 
-abbrev IsKnowingProcess : Section → Type 0
-IsKnowingProcess x = KnowingProcess (section_of x) (in_process x)
+abbrev IsKnowingSection : Section → Type 0
+IsKnowingSection x = KnowingSection (section_of x) (in_section x)
 
 abbrev knowing : Claims
 knowing = record {
@@ -98,13 +110,14 @@ knowing = record {
   member = IsKnowingMember;
   statement = IsKnowingStatement;
   addend = IsKnowingAddend;
+  argument = IsKnowingArgument;
   arm = IsKnowingArm;
   block = IsKnowingBlock;
   body = IsKnowingBody;
   factor = IsKnowingFactor;
   object = IsKnowingObject;
   operation = IsKnowingOperation;
-  section = IsKnowingProcess;
+  section = IsKnowingSection;
 }
 
 -- ---- lists of parts
@@ -292,10 +305,21 @@ block_at y =
 
 -- ---- links, factors and addends
 
+argument_pairs : (xs : List (Held IsKnowingArgument)) →
+    EveryPair KnowingPart (values_of (map argument_of (trees xs))) (map in_argument (trees xs))
+argument_pairs [] = tt
+argument_pairs (x ∷ xs) = (x.1, argument_pairs xs)
+
+argument_at : (y : ArgumentWith knowing) → IsKnowingArgument (roll-Argument (bare_argument knowing y))
+argument_at y =
+    subst (λ a. KnowingPart a.value (in_argument (roll-Argument (bare_argument knowing y))))
+    (sym (argument_rolled (bare_argument knowing y)))
+    (subst (KnowingPart (part_of y.value.0)) (sym (argument_declares (bare_argument knowing y))) y.value.1)
+
 link_is : (y : LinkWith knowing) →
     KnowingLink (link_step (link_mapped (bare_link knowing y))) (conform.link_step (link_declared (bare_link knowing y)))
 link_is (Link-F.Call name xs) = λ scope e.
-    parts_declare scope (map part_of (trees xs)) (map in_expression (trees xs)) (pairs xs) e
+    parts_declare scope (values_of (map argument_of (trees xs))) (map in_argument (trees xs)) (argument_pairs xs) e
 link_is (Link-F.Index x at) = λ scope e. x.1 true scope (none_left _ _ e)
 
 link_at : (y : LinkWith knowing) → IsKnowingLink (roll-Link (bare_link knowing y))
@@ -343,12 +367,25 @@ member_at y =
     (subst (KnowingMember (member_step (member_mapped (bare_member knowing y)))) (sym (member_declares (bare_member knowing y)))
     (member_is y))
 
+abbrev with_failure : OperationWith knowing → Option (Held IsKnowingSection) → OperationWith knowing
+with_failure y failure = record y { failure = failure }
+
+abbrev operation_part : OperationWith knowing → Option (Held IsKnowingSection) → OperationPart
+operation_part y failure = operation_step (operation_mapped (bare_operation knowing (with_failure y failure)))
+
+clauses_are : (y : OperationWith knowing) (failure : Option (Held IsKnowingSection)) →
+    KnowingOperation (operation_part y failure) (conform.operation_step (operation_declared (bare_operation knowing (with_failure y failure))))
+clauses_are y None = λ scope is_monitored e.
+    signatures.operation_declares scope is_monitored y.is_exported (operation_part y None) (in_block y.block.0) nothing y.block.1
+    (λ scope e. tt) e
+clauses_are y (Some c) = λ scope is_monitored e.
+    signatures.operation_declares scope is_monitored y.is_exported (operation_part y (Some c)) (in_block y.block.0)
+    (in_section c.0).within y.block.1 (λ scope e. c.1 scope e) e
+
 operation_is : (y : OperationWith knowing) →
     KnowingOperation (operation_step (operation_mapped (bare_operation knowing y)))
     (conform.operation_step (operation_declared (bare_operation knowing y)))
-operation_is y = λ scope is_monitored e.
-    signatures.operation_declares scope is_monitored y.is_exported (operation_step (operation_mapped (bare_operation knowing y)))
-    (in_block y.block.0) y.block.1 e
+operation_is y = clauses_are y y.failure
 
 operation_at : (y : OperationWith knowing) → IsKnowingOperation (roll-Operation (bare_operation knowing y))
 operation_at y =
@@ -358,20 +395,21 @@ operation_at y =
     (sym (operation_declares (bare_operation knowing y)))
     (operation_is y))
 
-process_is : (y : SectionWith knowing) →
-    KnowingProcess (section_step (section_mapped (bare_section knowing y)))
+section_is : (y : SectionWith knowing) →
+    KnowingSection (section_step (section_mapped (bare_section knowing y)))
     (conform.section_step (section_declared (bare_section knowing y)))
-process_is y = λ scope e. y.block.1 (in_a_process scope) (none_left _ _ e)
+section_is y = y.block.1
 
-process_at : (y : SectionWith knowing) → IsKnowingProcess (roll-Section (bare_section knowing y))
-process_at y =
-    subst (λ x. KnowingProcess x (in_process (roll-Section (bare_section knowing y))))
+section_at : (y : SectionWith knowing) → IsKnowingSection (roll-Section (bare_section knowing y))
+section_at y =
+    subst (λ x. KnowingSection x (in_section (roll-Section (bare_section knowing y))))
     (sym (section_rolled (bare_section knowing y)))
-    (subst (KnowingProcess (section_step (section_mapped (bare_section knowing y)))) (sym (section_declares (bare_section knowing y)))
-    (process_is y))
+    (subst (KnowingSection (section_step (section_mapped (bare_section knowing y)))) (sym (section_declares (bare_section knowing y)))
+    (section_is y))
 
-abbrev body_layer : List (Held IsKnowingMember) → Option (Held IsKnowingBlock) → Option (Held IsKnowingProcess) → BodyWith knowing
-body_layer ms i p = record { members = ms; initially = i; process = p }
+abbrev body_layer : List (Held IsKnowingMember) → Option (Held IsKnowingSection) → Option (Held IsKnowingSection) → Span →
+    BodyWith knowing
+body_layer ms i p at = record { members = ms; initially = i; process = p; end_at = at }
 
 body_types : (scope : Scope) (is_monitored : Bool) (ms : List (Held IsKnowingMember)) (i p : Declarations) →
     (members_finished scope is_monitored (map member_judged (map member_of (trees ms)))).faults ≡ [] →
@@ -392,22 +430,24 @@ body_types scope is_monitored ms i p e h k =
           (within_members_known scope.table (map in_member (trees ms)) members) (both_known scope.table i p h k);
     }
 
-body_is : (ms : List (Held IsKnowingMember)) (i : Option (Held IsKnowingBlock)) (p : Option (Held IsKnowingProcess)) →
-    KnowingBody (body_step (body_mapped (bare_body knowing (body_layer ms i p))))
-    (conform.body_step (body_declared (bare_body knowing (body_layer ms i p))))
-body_is ms None None = λ scope is_monitored e f g. body_types scope is_monitored ms nothing nothing e tt tt
-body_is ms None (Some p) = λ scope is_monitored e f g.
-    body_types scope is_monitored ms nothing (in_process p.0) e tt (p.1 scope g)
-body_is ms (Some i) None = λ scope is_monitored e f g.
-    body_types scope is_monitored ms (in_block i.0) nothing e (i.1 scope f) tt
-body_is ms (Some i) (Some p) = λ scope is_monitored e f g.
-    body_types scope is_monitored ms (in_block i.0) (in_process p.0) e (i.1 scope f) (p.1 scope g)
+body_is : (ms : List (Held IsKnowingMember)) (i p : Option (Held IsKnowingSection)) (at : Span) →
+    KnowingBody (body_step (body_mapped (bare_body knowing (body_layer ms i p at))))
+    (conform.body_step (body_declared (bare_body knowing (body_layer ms i p at))))
+body_is ms None None at = λ scope is_monitored e f g. body_types scope is_monitored ms nothing nothing e tt tt
+body_is ms None (Some p) at = λ scope is_monitored e f g.
+    body_types scope is_monitored ms nothing (operation_at (in_section p.0).at (in_section p.0).within) e tt
+    (p.1 (in_a_process scope) (none_left _ _ g))
+body_is ms (Some i) None at = λ scope is_monitored e f g.
+    body_types scope is_monitored ms (in_section i.0).within nothing e (i.1 scope f) tt
+body_is ms (Some i) (Some p) at = λ scope is_monitored e f g.
+    body_types scope is_monitored ms (in_section i.0).within (operation_at (in_section p.0).at (in_section p.0).within) e
+    (i.1 scope f) (p.1 (in_a_process scope) (none_left _ _ g))
 
 body_at : (y : BodyWith knowing) → IsKnowingBody (roll-Body (bare_body knowing y))
 body_at y =
     subst (λ x. KnowingBody x (in_body (roll-Body (bare_body knowing y)))) (sym (body_rolled (bare_body knowing y)))
     (subst (KnowingBody (body_step (body_mapped (bare_body knowing y)))) (sym (body_declares (bare_body knowing y)))
-    (body_is y.members y.initially y.process))
+    (body_is y.members y.initially y.process y.end_at))
 
 object_is : (y : ObjectWith knowing) →
     KnowingObject (object_step (object_mapped (bare_object knowing y))) (conform.constructor_step (object_declared (bare_object knowing y)))
@@ -430,13 +470,14 @@ passes = record {
   member = member_at;
   statement = statement_at;
   addend = addend_at;
+  argument = argument_at;
   arm = arm_at;
   block = block_at;
   body = body_at;
   factor = factor_at;
   object = object_at;
   operation = operation_at;
-  section = process_at;
+  section = section_at;
 }
 
 pub knowing_part : (x : Expression) → IsKnowingPart x

@@ -12,6 +12,7 @@ use Rattle.ec_check.specs.Places.{Env, field_named}
 use Rattle.ec_check.specs.Program.{core_of}
 use Rattle.ec_check.specs.Resolving.{at_start, env_in, env_of_body, env_of_operation, field_stored, initially_core, locals_of_block}
 use Rattle.ec_check.specs.Resolving.{types_written, result_written, heading_types}
+use Rattle.ec_check.specs.Resolving.{locals_of_blocks}
 use Rattle.ec_types.specs.Declarations.{declarations_of}
 use Rattle.ec_types.specs.Table.{Table, IsTable}
 use Rattle.ec_core.specs.declared.Class.{Class}
@@ -34,6 +35,7 @@ use Rattle.ec_core_laws.specs.Measures.{block_height}
 use Rattle.ec_core_laws.specs.Measures.{size_of_statement, size_of_block, height_of_statement, height_of_block, IsSmall}
 use Rattle.ec_rules.specs.Faults.{StaticFaults}
 use Rattle.ec_rules.specs.Judging.{member_finished, members_finished, finished_if, first_finished}
+use Rattle.ec_rules.specs.Judging.{clause_finished, blocks_finished}
 use Rattle.ec_rules.specs.Limits.{too_large, many_variables, many_nodes, variables_of, count_of}
 use Rattle.ec_rules.specs.Lists.{each, plus}
 use Rattle.ec_rules.specs.Members.{scope_of_operation}
@@ -43,6 +45,7 @@ use Rattle.ec_rules.specs.declared.Rule.{Rule}
 use Rattle.ec_rules.specs.declared.judged.Done.{Done}
 use Rattle.ec_types.specs.declared.scopes.scope.Scope.{Scope}
 use Rattle.ec_types.specs.Scopes.{in_a_process}
+use Rattle.ec_rules.specs.Statements.{done_both}
 
 -- ---- limits that no fault is beyond
 
@@ -86,25 +89,54 @@ heading_counted scope ps result =
     let d : length (result_written scope result) ≡ count_of result = result_counted scope result in
     omega arith
 
+-- the locals of a failure clause
+clause_locals : (env : Env) (b : Option Piece) → Where IsPiece b →
+    (clause_finished env.scope (option_map (λ p. p.piece) b)).done.variables ≤ 100 →
+    length (locals_of_block env.scope b) ≤ (clause_finished env.scope (option_map (λ p. p.piece) b)).done.variables
+clause_locals env None tree l = omega arith
+clause_locals env (Some b) tree l =
+    let d : SmallDone (size_of_block (b.core env)) (height_of_block (b.core env)) (length (b.locals env.scope)) (b.piece env.scope).done =
+    (small_piece b tree).small env in
+    let r : length (b.locals env.scope) ≤ (b.piece env.scope).done.variables = d.locals (omega arith) in
+    omega arith
+
+-- a block, and behind it one whose locals alone count
+with_locals_of : (s h l k : ℕ) (a b : Done) → SmallDone s h l a → (b.variables ≤ 100 → k ≤ b.variables) →
+    SmallDone s h (l + k) (done_both a b)
+with_locals_of s h l k a b d c = record {
+  small = record {
+    size = λ e. let r : s ≤ a.nodes = d.small.size (omega arith) in omega arith;
+    height = λ e. let r : h ≤ a.height = d.small.height (omega arith) in omega arith;
+  };
+  locals = λ e.
+      let r : l ≤ a.variables = d.locals (omega arith) in
+      let q : k ≤ b.variables = c (omega arith) in
+      omega arith;
+}
+
 named_small : {classes : List Class} (scope : Scope) (h : Holder) → Known classes scope h → (o : OperationPart) → IsPiece o.block →
-    OperationFaultless scope h o → IsSmall (named_of scope h o)
-named_small scope h known o tree e =
+    Where IsPiece o.failure → OperationFaultless scope h o → IsSmall (named_of scope h o)
+named_small scope h known o tree clause e =
     let inner : Scope = scope_of_operation (scope_in scope h) (operation_judged o) in
     let env : Env = env_of_operation (env_of_body scope h) o in
-    let d : SmallDone (size_of_block (o.block.core env)) (height_of_block (o.block.core env)) (length (o.block.locals inner))
-    (o.block.piece inner).done = (small_piece o.block tree).small env in
+    let d : SmallDone (size_of_block (o.block.core env)) (height_of_block (o.block.core env))
+    (length (o.block.locals inner) + length (locals_of_block inner o.failure)) (blocks_finished inner (operation_judged o)).done =
+    with_locals_of _ _ _ _ (o.block.piece inner).done (clause_finished inner (option_map (λ p. p.piece) o.failure)).done
+    ((small_piece o.block tree).small env) (clause_locals env o.failure clause) in
+    let b : length (locals_of_blocks inner o) ≡ length (o.block.locals inner) + length (locals_of_block inner o.failure) =
+    length-append (o.block.locals inner) (locals_of_block inner o.failure) in
     let c : length (heading_types (scope_in scope h) o.parameters o.result) ≡ length o.parameters + count_of o.result =
     heading_counted (scope_in scope h) o.parameters o.result in
-    let a : length (heading_types (scope_in scope h) o.parameters o.result ++ o.block.locals inner)
-    ≡ length (heading_types (scope_in scope h) o.parameters o.result) + length (o.block.locals inner) =
-    length-append (heading_types (scope_in scope h) o.parameters o.result) (o.block.locals inner) in
+    let a : length (heading_types (scope_in scope h) o.parameters o.result ++ locals_of_blocks inner o)
+    ≡ length (heading_types (scope_in scope h) o.parameters o.result) + length (locals_of_blocks inner o) =
+    length-append (heading_types (scope_in scope h) o.parameters o.result) (locals_of_blocks inner o) in
     let w : (size_of_block (o.block.core env) ≤ 4000)
-    × ((length (heading_types (scope_in scope h) o.parameters o.result) + length (o.block.locals inner)) + height_of_block
-    (o.block.core env) ≤ 100) =
-    within o.name.at (variables_of (operation_judged o)) _ _ _ _ (o.block.piece inner).done d (operation_small scope h o e)
-    (λ l. omega arith) in
-    let v : (length (heading_types (scope_in scope h) o.parameters o.result) + length (o.block.locals inner)) + height_of_block
-    (o.block.core env)
+    × ((length (heading_types (scope_in scope h) o.parameters o.result)
+    + (length (o.block.locals inner) + length (locals_of_block inner o.failure))) + height_of_block (o.block.core env) ≤ 100) =
+    within o.name.at (variables_of (operation_judged o)) _ _ _ _ (blocks_finished inner (operation_judged o)).done d
+    (operation_small scope h o e) (λ l. omega arith) in
+    let v : (length (heading_types (scope_in scope h) o.parameters o.result)
+    + (length (o.block.locals inner) + length (locals_of_block inner o.failure))) + height_of_block (o.block.core env)
     ≤ 100 = w.1 in
     record { size = w.0; values = omega arith }
 
@@ -240,7 +272,7 @@ pub each_is_small : (table : Table) (program : Program) → IsTable (declaration
 each_is_small table program is none =
     each_operation table program IsSmall is none
     (record {
-      named = λ scope h known o tree e. named_small scope h known o tree e;
+      named = λ scope h known o tree clause e. named_small scope h known o tree clause e;
       first = λ scope h known. first_is_small scope h known;
       process = λ scope h known p tree e. process_small scope h known p tree e;
     })

@@ -47,10 +47,11 @@ use Rattle.ec_core_laws.proofs.Statements.{arm_is, block_is}
 use Rattle.ec_core_laws.specs.Measures.{all_behind, all_of, if_there, expression_size, link_size, factor_size, addend_size, size_of}
 use Rattle.ec_core_laws.specs.Measures.{size_of_link, size_of_factor, size_of_addend, statement_size, arm_size, block_size}
 use Rattle.ec_core_laws.specs.Measures.{size_of_statement, size_of_arm, size_of_block}
-use Rattle.ec_core_laws.proofs.CoreSizesTextParts.{call_nodes, index_nodes, nodes, rolled}
+use Rattle.ec_core_laws.proofs.CoreSizesTextParts.{index_nodes, nodes, rolled}
 use Rattle.ec_core_laws.proofs.Weighed.{Weighed, all_joined, as_class, as_operation, body_is, both, captures_are, chained, form, grown}
 use Rattle.ec_core_laws.proofs.Weighed.{in_parentheses, lighter, link_captures_are, link_form, link_size_is, nothing, object_nodes, one}
 use Rattle.ec_core_laws.proofs.Weighed.{same, size_is, statement_captures_are, statement_form, statement_size_is, target_parts}
+use Rattle.ec_core_laws.proofs.Weighed.{call_is, operation_is}
 use Rattle.ec_core_laws.specs.Captures.{expression_captures, link_captures, factor_captures, addend_captures, captures_of}
 use Rattle.ec_core_laws.specs.Captures.{captures_of_link, captures_of_factor, captures_of_addend, statement_captures, arm_captures}
 use Rattle.ec_core_laws.specs.Captures.{block_captures, captures_of_statement, captures_of_arm, captures_of_block}
@@ -61,11 +62,13 @@ use Rattle.ec_core_laws.specs.Ties as ties
 use Rattle.ec_core_laws.specs.Ties.{TiedExpression, AreTied, AreLinks, AreFactors, AreAddends, TiedStatement, AreArms, IsElse, TiedBlock}
 use Rattle.ec_core_laws.specs.Ties.{AreStatements, AreMembers, IsInitially, IsProcess, TiedHolder, AreConstants, captures_of as names_of}
 use Rattle.ec_core_laws.specs.Ties.{with_links}
+use Rattle.ec_core_laws.specs.Ties.{IsClause}
 use Rattle.ec_types.specs.Names.{Text}
 use Rattle.ec_rules.specs.Parts.{Holder}
 use Rattle.ec_types.specs.declared.scopes.scope.Scope.{Scope}
 use Rattle.ec_ast.specs.Kinds.{MemberLayer}
 use Rattle.ec_ast.specs.Layers as layers
+use Rattle.ec_ast.specs.declared.Argument.{Argument}
 
 -- ---- forms that weigh less in the core
 
@@ -87,9 +90,9 @@ constructed o class places n t is object h =
     (lighter 1 (length places) (nodes.object o) (omega arith) (omega arith) (omega arith) (grown h))
 
 -- `NAME.create` with arguments, and what is behind it
-created : {m n : Made} (name word : Name) (xs : List Expression) (links : List Link) (class : ℕ) (ys : List CoreExpression)
+created : {m n : Made} (name word : Name) (xs : List Argument) (links : List Link) (class : ℕ) (ys : List CoreExpression)
     (ks : List CoreLink) →
-    Weighed (all_of (map size_of ys)) (all_of (map captures_of ys)) m (all_of (map nodes.expression xs)) →
+    Weighed (all_of (map size_of ys)) (all_of (map captures_of ys)) m (all_of (map nodes.expression (ties.values_of xs))) →
     Weighed (all_of (map size_of_link ks)) (all_of (map captures_of_link ks)) n (all_of (map nodes.link links)) →
     Weighed (size_of (with_links (e.Create class ys) ks)) (captures_of (with_links (e.Create class ys) ks)) (both_made m n)
     (nodes.expression (tree.Postfix (tree.Variable name) (tree_link.Call word xs ∷ links)))
@@ -98,7 +101,7 @@ created name word xs links class ys ks h k =
     size_is (e.Create class ys) (Core-F.Create class ys) (e.rolls-Create class ys) in
     let captures : captures_of (e.Create class ys) ≡ all_of (map captures_of ys) =
     captures_are (e.Create class ys) (Core-F.Create class ys) (e.rolls-Create class ys) in
-    let call : nodes.link (tree_link.Call word xs) ≡ 1 + all_of (map nodes.expression xs) = call_nodes word xs in
+    let call : nodes.link (tree_link.Call word xs) ≡ 1 + all_of (map nodes.expression (ties.values_of xs)) = call_is word xs in
     chained (Expression-F.Postfix (tree.Variable name) (tree_link.Call word xs ∷ links)) (e.Create class ys) ks
     (tree.rolls-Postfix (tree.Variable name) (tree_link.Call word xs ∷ links))
     (lighter (size_of (e.Create class ys) + all_of (map size_of_link ks))
@@ -192,6 +195,10 @@ operation_weighed : {m n : Made} {a b t u : ℕ} (o : CoreOperation) (x : Member
 operation_weighed {a = a} {b = b} {t = t} {u = u} o x is h k =
     lighter a b (nodes.member x + u) (omega arith) (omega arith) (omega arith) (both (as_operation o h) k)
 
+-- a block with its operation's clause, which isn't measured
+with_clause : {m n : Made} {t u : ℕ} (a b : ℕ) → Weighed a b m t → Weighed 0 0 n u → Weighed a b (both_made m n) (t + u)
+with_clause {t = t} {u = u} a b h k = lighter a b (t + u) (omega arith) (omega arith) (omega arith) (both h k)
+
 -- a class: what its members store, and then its `initially` block
 holder_weighed : {m n k : Made} (scope : Scope) (h : Holder) (types : List StaticType) (fields : List Field)
     (stores ys : List CoreStatement) (ts : List StaticType) (conditions p q r : ℕ) (b : Body) → length types ≡ length (names_of scope h) →
@@ -276,8 +283,8 @@ mutual
   links : {env : Env} {xs : List Link} {ks : List CoreLink} {m : Made} → AreLinks env xs ks m →
       Weighed (all_of (map size_of_link ks)) (all_of (map captures_of_link ks)) m (all_of (map nodes.link xs))
   links ties.links_end = nothing
-  links (ties.invoke h k) = both (link_form _ (l.rolls-Invoke _ _ _ _) _ (call_nodes _ _) (grown (expressions h))) (links k)
-  links (ties.call b h k) = both (link_form _ (l.rolls-Call _ _ _) _ (call_nodes _ _) (grown (expressions h))) (links k)
+  links (ties.invoke h k) = both (link_form _ (l.rolls-Invoke _ _ _ _) _ (call_is _ _) (grown (expressions h))) (links k)
+  links (ties.call b h k) = both (link_form _ (l.rolls-Call _ _ _) _ (call_is _ _) (grown (expressions h))) (links k)
   links (ties.element h k) = both (link_form _ (l.rolls-Element _ _ _) _ (index_nodes _ _) (grown (expression h))) (links k)
 
   factors : {env : Env} {xs : List Factor} {ys : List CoreFactor} {m : Made} → AreFactors env xs ys m →
@@ -385,7 +392,7 @@ mutual
       (member_nodes_are _ (Member-F.Constant is_attached name of x) (member.rolls-Constant is_attached name of x)) (expression h))
       (members k)
   members (ties.condition h) = none_stored _ (members h)
-  members (ties.operation is_exported name end_name parameters result {x = x} h k) =
+  members (ties.operation is_exported name end_name end_at parameters result {x = x} {failure = failure} {y = y} h c k) =
       operation_weighed _ _
       (member_nodes_are _
       (Member-F.Operation
@@ -396,35 +403,47 @@ mutual
         parameters = parameters;
         result = result;
         block = x;
+        failure = failure;
         end_name = end_name;
+        end_at = end_at;
       })))
       (member.rolls-Operation _)
-      ∙ rolled.operation
+      ∙ operation_is
       (record {
         is_exported = is_exported;
         name = name;
         parameters = parameters;
         result = result;
         block = x;
+        failure = failure;
         end_name = end_name;
+        end_at = end_at;
       }))
-      (block h) (members k)
+      (with_clause (size_of_block y) (captures_of_block y) (block h) (clause c)) (members k)
 
-  initially : {env : Env} {x : Option Block} {ys : List CoreStatement} {ts : List StaticType} {m : Made} → IsInitially env x ys ts m →
-      Weighed (all_of (map size_of_statement ys)) (all_of (map captures_of_statement ys)) m (if_there (option_map nodes.block x))
+  clause : {env : Env} {x : Option Section} {y : Option CoreBlock} {ts : List StaticType} {m : Made} → IsClause env x y ts m →
+      Weighed 0 0 m (if_there (option_map nodes.section x))
+  clause ties.no_clause = nothing
+  clause (ties.clause at end_at {x = x} h) =
+      same refl refl (rolled.section (record { block = x; at = at; end_at = end_at }))
+      (lighter 0 0 (nodes.block x) (omega arith) (omega arith) (omega arith) (block h))
+
+  initially : {env : Env} {x : Option Section} {ys : List CoreStatement} {ts : List StaticType} {m : Made} → IsInitially env x ys ts m →
+      Weighed (all_of (map size_of_statement ys)) (all_of (map captures_of_statement ys)) m (if_there (option_map nodes.section x))
   initially ties.no_initially = nothing
-  initially (ties.initially h) = statements_of_block _ (block h)
+  initially (ties.initially at end_at {x = x} h) =
+      same refl refl (rolled.section (record { block = x; at = at; end_at = end_at })) (statements_of_block _ (block h))
 
   process : {class : ℕ} {env : Env} {name : Name} {x : Option Section} {m : Made} → IsProcess class env name x m →
-      Weighed 0 0 m (if_there (option_map nodes.process x))
+      Weighed 0 0 m (if_there (option_map nodes.section x))
   process ties.no_process = nothing
-  process (ties.process at {x = x} h) =
-      same refl refl (rolled.process (record { block = x; at = at })) (as_operation _ (block h))
+  process (ties.process at end_at {x = x} h) =
+      same refl refl (rolled.section (record { block = x; at = at; end_at = end_at })) (as_operation _ (block h))
 
   pub holder : {scope : Scope} {h : Holder} {b : Body} {m : Made} → TiedHolder scope h b m →
       Weighed 0 (length (names_of scope h)) m (nodes.body b)
-  holder (ties.holder {scope = scope} {h = h} {members = xs} {first = first} {section = section} few ms i p) =
-      holder_weighed scope h _ _ _ _ _ _ _ _ _ _ few (body_is xs first section) (members ms) (initially i) (process p)
+  holder (ties.holder {scope = scope} {h = h} {members = xs} {first = first} {section = section} {end_at = end_at} few ms i p) =
+      holder_weighed scope h _ _ _ _ _ _ _ _ _ _ few (body_is xs first section end_at) (members ms) (initially i) (process p)
 
 -- ---- constants
 

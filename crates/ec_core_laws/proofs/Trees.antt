@@ -1,31 +1,36 @@
 -- What holds of each part of a tree, where it holds of a layer of parts of which it holds: one induction over all kinds of parts.
 use Rattle.std.proofs.Common.{◌≡◌, List, [], ◌∷◌, map, Option, Some, None, refl, sym, subst}
-use Rattle.ec_ast.specs.declared.Expression.{Expression, roll-Expression, map-Expression, ind-Expression}
-use Rattle.ec_ast.specs.declared.Link.{Link, roll-Link, map-Link}
-use Rattle.ec_ast.specs.declared.Member.{Member, roll-Member, map-Member}
-use Rattle.ec_ast.specs.declared.Statement.{Statement, roll-Statement, map-Statement}
-use Rattle.ec_ast.specs.declared.Addend.{Addend, roll-Addend, map-Addend}
-use Rattle.ec_ast.specs.declared.Arm.{Arm, roll-Arm, map-Arm}
-use Rattle.ec_ast.specs.declared.Block.{Block, roll-Block, map-Block, ind-Block}
-use Rattle.ec_ast.specs.declared.Body.{Body, roll-Body, map-Body, ind-Body}
-use Rattle.ec_ast.specs.declared.Factor.{Factor, roll-Factor, map-Factor}
-use Rattle.ec_ast.specs.declared.ObjectConstructor.{ObjectConstructor, roll-ObjectConstructor, map-ObjectConstructor}
-use Rattle.ec_ast.specs.declared.Operation.{Operation, roll-Operation, map-Operation}
-use Rattle.ec_ast.specs.declared.Section.{Section, roll-Section, map-Section}
-use Rattle.ec_ast.specs.declared.Expression.TheOpen.{Expression-F, Link-F, Member-F, Statement-F, Addend-F, Arm-F, Block-F}
-use Rattle.ec_ast.specs.declared.Expression.TheOpen.{Body-F, Factor-F, ObjectConstructor-F, Operation-F, Section-F}
-use Rattle.ec_check.proofs.Every.{Every, Where}
-use Rattle.ec_check.proofs.Rolled.{ExpressionLayer, LinkLayer, MemberLayer, StatementLayer, AddendLayer, ArmLayer, BlockLayer}
-use Rattle.ec_check.proofs.Rolled.{BodyLayer, FactorLayer, ObjectLayer, OperationLayer, SectionLayer}
+use Rattle.ec_ast.proofs.Claims.{Claims, Passes, Held, ExpressionWith, LinkWith, MemberWith, StatementWith, AddendWith, ArgumentWith}
+use Rattle.ec_ast.proofs.Claims.{ArmWith, BlockWith, BodyWith, FactorWith, ObjectWith, OperationWith, SectionWith}
+use Rattle.ec_ast.proofs.Claims.{bare_expression, bare_link, bare_member, bare_statement, bare_addend, bare_argument, bare_arm}
+use Rattle.ec_ast.proofs.Claims.{bare_block, bare_body, bare_factor, bare_object, bare_operation, bare_section}
+use Rattle.ec_ast.proofs.Claims.{expression_holds, body_holds, block_holds}
+use Rattle.ec_ast.specs.declared.Expression.{Expression, roll-Expression}
+use Rattle.ec_ast.specs.declared.Link.{Link, roll-Link}
+use Rattle.ec_ast.specs.declared.Member.{Member, roll-Member}
+use Rattle.ec_ast.specs.declared.Statement.{Statement, roll-Statement}
+use Rattle.ec_ast.specs.declared.Addend.{Addend, roll-Addend}
+use Rattle.ec_ast.specs.declared.Argument.{Argument, roll-Argument}
+use Rattle.ec_ast.specs.declared.Arm.{Arm, roll-Arm}
+use Rattle.ec_ast.specs.declared.Block.{Block, roll-Block}
+use Rattle.ec_ast.specs.declared.Body.{Body, roll-Body}
+use Rattle.ec_ast.specs.declared.Factor.{Factor, roll-Factor}
+use Rattle.ec_ast.specs.declared.ObjectConstructor.{ObjectConstructor, roll-ObjectConstructor}
+use Rattle.ec_ast.specs.declared.Operation.{Operation, roll-Operation}
+use Rattle.ec_ast.specs.declared.Section.{Section, roll-Section}
+use Rattle.ec_ast.specs.declared.Span.{Span}
+use Rattle.ec_ast.specs.declared.Expression.TheOpen.{Expression-F, Link-F, Member-F, Statement-F}
+use Rattle.ec_check.proofs.Every.{Every, Where, each_within}
 use Rattle.ec_check.proofs.Rolled.{expression_mapped, link_mapped, member_mapped, statement_mapped, body_mapped, block_mapped}
+use Rattle.ec_check.proofs.Rolled.{operation_mapped, argument_rolled}
 use Rattle.ec_check.proofs.Rolled.{part_rolled, link_rolled, member_rolled, statement_rolled, addend_rolled, arm_rolled, block_rolled}
 use Rattle.ec_check.proofs.Rolled.{body_rolled}
 use Rattle.ec_check.proofs.Rolled.{factor_rolled, object_rolled, operation_rolled, section_rolled}
 use Rattle.ec_check.specs.Parts.{Part, Piece, StatementPart, LinkPart, call, index, FactorPart, AddendPart, ArmPart, SectionPart}
 use Rattle.ec_check.specs.Parts.{OperationPart, MemberPart, variable, constant, condition, operation, BodyPart, ObjectPart}
 use Rattle.ec_check.specs.Parts.{AnExpression, AStatement, ABlock}
-use Rattle.ec_check.specs.Tree.{expression_step, statement_step, block_step, link_step, member_step, body_step}
-use Rattle.ec_check.specs.Tree.{part_of, link_of, member_of, statement_of, addend_of, arm_of, block_of, body_of, factor_of}
+use Rattle.ec_check.specs.Tree.{expression_step, statement_step, block_step, link_step, member_step, body_step, operation_step}
+use Rattle.ec_check.specs.Tree.{part_of, link_of, member_of, statement_of, addend_of, argument_of, arm_of, block_of, body_of, factor_of}
 use Rattle.ec_check.specs.Tree.{object_of, operation_of, section_of}
 
 -- ---- parts of a tree
@@ -65,11 +70,12 @@ module _ (P : Part → Type 0) (S : StatementPart → Type 0) (B : Piece → Typ
   abbrev pub ArmHas : ArmPart → Type 0
   ArmHas a = PartHas a.condition × PieceHas a.block
 
-  abbrev pub ProcessHas : SectionPart → Type 0
-  ProcessHas p = PieceHas p.block
+  abbrev pub SectionHas : SectionPart → Type 0
+  SectionHas p = PieceHas p.block
 
+  -- its block, and its failure clause
   abbrev pub OperationHas : OperationPart → Type 0
-  OperationHas o = PieceHas o.block
+  OperationHas o = PieceHas o.block × Where PieceHas o.failure
 
   abbrev pub MemberHas : MemberPart → Type 0
   MemberHas (variable is_attached name of value) = Where PartHas value
@@ -79,7 +85,7 @@ module _ (P : Part → Type 0) (S : StatementPart → Type 0) (B : Piece → Typ
 
   -- its members, the block that runs first, and the process section
   abbrev pub BodyHas : BodyPart → Type 0
-  BodyHas b = Every MemberHas b.members × Where PieceHas b.initially × Where ProcessHas b.process
+  BodyHas b = Every MemberHas b.members × Where PieceHas b.initially × Where SectionHas b.process
 
   abbrev pub ObjectHas : ObjectPart → Type 0
   ObjectHas o = IsBody o.holder.body × BodyHas o.holder.body
@@ -142,6 +148,9 @@ module _ (P : Part → Type 0) (S : StatementPart → Type 0) (B : Piece → Typ
   abbrev TreeAddendHas : Addend → Type 0
   TreeAddendHas x = AddendHas (addend_of x)
 
+  abbrev TreeArgumentHas : Argument → Type 0
+  TreeArgumentHas x = PartHas (argument_of x).value
+
   abbrev TreeArmHas : Arm → Type 0
   TreeArmHas x = ArmHas (arm_of x)
 
@@ -160,252 +169,25 @@ module _ (P : Part → Type 0) (S : StatementPart → Type 0) (B : Piece → Typ
   abbrev TreeOperationHas : Operation → Type 0
   TreeOperationHas x = OperationHas (operation_of x)
 
-  abbrev TreeProcessHas : Section → Type 0
-  TreeProcessHas x = ProcessHas (section_of x)
+  abbrev TreeSectionHas : Section → Type 0
+  TreeSectionHas x = SectionHas (section_of x)
 
-  -- ---- parts, each with its proof
-
-  abbrev PartHeld : Type 0
-  PartHeld = (x : Expression) × TreePartHas x
-
-  abbrev bare_part : PartHeld → Expression
-  bare_part x = x.0
-
-  abbrev LinkHeld : Type 0
-  LinkHeld = (x : Link) × TreeLinkHas x
-
-  abbrev bare_link : LinkHeld → Link
-  bare_link x = x.0
-
-  abbrev MemberHeld : Type 0
-  MemberHeld = (x : Member) × TreeMemberHas x
-
-  abbrev bare_member : MemberHeld → Member
-  bare_member x = x.0
-
-  abbrev StatementHeld : Type 0
-  StatementHeld = (x : Statement) × TreeStatementHas x
-
-  abbrev bare_statement : StatementHeld → Statement
-  bare_statement x = x.0
-
-  abbrev AddendHeld : Type 0
-  AddendHeld = (x : Addend) × TreeAddendHas x
-
-  abbrev bare_addend : AddendHeld → Addend
-  bare_addend x = x.0
-
-  abbrev ArmHeld : Type 0
-  ArmHeld = (x : Arm) × TreeArmHas x
-
-  abbrev bare_arm : ArmHeld → Arm
-  bare_arm x = x.0
-
-  abbrev BlockHeld : Type 0
-  BlockHeld = (x : Block) × TreeBlockHas x
-
-  abbrev bare_block : BlockHeld → Block
-  bare_block x = x.0
-
-  abbrev BodyHeld : Type 0
-  BodyHeld = (x : Body) × TreeBodyHas x
-
-  abbrev bare_body : BodyHeld → Body
-  bare_body x = x.0
-
-  abbrev FactorHeld : Type 0
-  FactorHeld = (x : Factor) × TreeFactorHas x
-
-  abbrev bare_factor : FactorHeld → Factor
-  bare_factor x = x.0
-
-  abbrev ObjectHeld : Type 0
-  ObjectHeld = (x : ObjectConstructor) × TreeObjectHas x
-
-  abbrev bare_object : ObjectHeld → ObjectConstructor
-  bare_object x = x.0
-
-  abbrev OperationHeld : Type 0
-  OperationHeld = (x : Operation) × TreeOperationHas x
-
-  abbrev bare_operation : OperationHeld → Operation
-  bare_operation x = x.0
-
-  abbrev ProcessHeld : Type 0
-  ProcessHeld = (x : Section) × TreeProcessHas x
-
-  abbrev bare_section : ProcessHeld → Section
-  bare_section x = x.0
-
-  -- ---- one layer with such parts in it
-
-  abbrev ExpressionWith : Type 0
-  ExpressionWith =
-      Expression-F PartHeld LinkHeld MemberHeld StatementHeld AddendHeld ArmHeld BlockHeld BodyHeld FactorHeld ObjectHeld
-      OperationHeld ProcessHeld
-
-  abbrev bare_expression_layer : ExpressionWith → ExpressionLayer
-  bare_expression_layer =
-      map-Expression
-      PartHeld LinkHeld MemberHeld StatementHeld AddendHeld ArmHeld BlockHeld BodyHeld FactorHeld ObjectHeld OperationHeld
-      ProcessHeld
-      Expression Link Member Statement Addend Arm Block Body Factor ObjectConstructor Operation Section
-      bare_part bare_link bare_member bare_statement bare_addend bare_arm bare_block bare_body bare_factor bare_object
-      bare_operation bare_section
-
-  abbrev LinkWith : Type 0
-  LinkWith =
-      Link-F PartHeld LinkHeld MemberHeld StatementHeld AddendHeld ArmHeld BlockHeld BodyHeld FactorHeld ObjectHeld OperationHeld
-      ProcessHeld
-
-  abbrev bare_link_layer : LinkWith → LinkLayer
-  bare_link_layer =
-      map-Link
-      PartHeld LinkHeld MemberHeld StatementHeld AddendHeld ArmHeld BlockHeld BodyHeld FactorHeld ObjectHeld OperationHeld
-      ProcessHeld
-      Expression Link Member Statement Addend Arm Block Body Factor ObjectConstructor Operation Section
-      bare_part bare_link bare_member bare_statement bare_addend bare_arm bare_block bare_body bare_factor bare_object
-      bare_operation bare_section
-
-  abbrev MemberWith : Type 0
-  MemberWith =
-      Member-F PartHeld LinkHeld MemberHeld StatementHeld AddendHeld ArmHeld BlockHeld BodyHeld FactorHeld ObjectHeld
-      OperationHeld ProcessHeld
-
-  abbrev bare_member_layer : MemberWith → MemberLayer
-  bare_member_layer =
-      map-Member
-      PartHeld LinkHeld MemberHeld StatementHeld AddendHeld ArmHeld BlockHeld BodyHeld FactorHeld ObjectHeld OperationHeld
-      ProcessHeld
-      Expression Link Member Statement Addend Arm Block Body Factor ObjectConstructor Operation Section
-      bare_part bare_link bare_member bare_statement bare_addend bare_arm bare_block bare_body bare_factor bare_object
-      bare_operation bare_section
-
-  abbrev StatementWith : Type 0
-  StatementWith =
-      Statement-F PartHeld LinkHeld MemberHeld StatementHeld AddendHeld ArmHeld BlockHeld BodyHeld FactorHeld ObjectHeld
-      OperationHeld ProcessHeld
-
-  abbrev bare_statement_layer : StatementWith → StatementLayer
-  bare_statement_layer =
-      map-Statement
-      PartHeld LinkHeld MemberHeld StatementHeld AddendHeld ArmHeld BlockHeld BodyHeld FactorHeld ObjectHeld OperationHeld
-      ProcessHeld
-      Expression Link Member Statement Addend Arm Block Body Factor ObjectConstructor Operation Section
-      bare_part bare_link bare_member bare_statement bare_addend bare_arm bare_block bare_body bare_factor bare_object
-      bare_operation bare_section
-
-  abbrev AddendWith : Type 0
-  AddendWith =
-      Addend-F PartHeld LinkHeld MemberHeld StatementHeld AddendHeld ArmHeld BlockHeld BodyHeld FactorHeld ObjectHeld
-      OperationHeld ProcessHeld
-
-  abbrev bare_addend_layer : AddendWith → AddendLayer
-  bare_addend_layer =
-      map-Addend
-      PartHeld LinkHeld MemberHeld StatementHeld AddendHeld ArmHeld BlockHeld BodyHeld FactorHeld ObjectHeld OperationHeld
-      ProcessHeld
-      Expression Link Member Statement Addend Arm Block Body Factor ObjectConstructor Operation Section
-      bare_part bare_link bare_member bare_statement bare_addend bare_arm bare_block bare_body bare_factor bare_object
-      bare_operation bare_section
-
-  abbrev ArmWith : Type 0
-  ArmWith =
-      Arm-F PartHeld LinkHeld MemberHeld StatementHeld AddendHeld ArmHeld BlockHeld BodyHeld FactorHeld ObjectHeld OperationHeld
-      ProcessHeld
-
-  abbrev bare_arm_layer : ArmWith → ArmLayer
-  bare_arm_layer =
-      map-Arm
-      PartHeld LinkHeld MemberHeld StatementHeld AddendHeld ArmHeld BlockHeld BodyHeld FactorHeld ObjectHeld OperationHeld
-      ProcessHeld
-      Expression Link Member Statement Addend Arm Block Body Factor ObjectConstructor Operation Section
-      bare_part bare_link bare_member bare_statement bare_addend bare_arm bare_block bare_body bare_factor bare_object
-      bare_operation bare_section
-
-  abbrev BlockWith : Type 0
-  BlockWith =
-      Block-F PartHeld LinkHeld MemberHeld StatementHeld AddendHeld ArmHeld BlockHeld BodyHeld FactorHeld ObjectHeld OperationHeld
-      ProcessHeld
-
-  abbrev bare_block_layer : BlockWith → BlockLayer
-  bare_block_layer =
-      map-Block
-      PartHeld LinkHeld MemberHeld StatementHeld AddendHeld ArmHeld BlockHeld BodyHeld FactorHeld ObjectHeld OperationHeld
-      ProcessHeld
-      Expression Link Member Statement Addend Arm Block Body Factor ObjectConstructor Operation Section
-      bare_part bare_link bare_member bare_statement bare_addend bare_arm bare_block bare_body bare_factor bare_object
-      bare_operation bare_section
-
-  abbrev BodyWith : Type 0
-  BodyWith =
-      Body-F PartHeld LinkHeld MemberHeld StatementHeld AddendHeld ArmHeld BlockHeld BodyHeld FactorHeld ObjectHeld OperationHeld
-      ProcessHeld
-
-  abbrev bare_body_layer : BodyWith → BodyLayer
-  bare_body_layer =
-      map-Body
-      PartHeld LinkHeld MemberHeld StatementHeld AddendHeld ArmHeld BlockHeld BodyHeld FactorHeld ObjectHeld OperationHeld
-      ProcessHeld
-      Expression Link Member Statement Addend Arm Block Body Factor ObjectConstructor Operation Section
-      bare_part bare_link bare_member bare_statement bare_addend bare_arm bare_block bare_body bare_factor bare_object
-      bare_operation bare_section
-
-  abbrev FactorWith : Type 0
-  FactorWith =
-      Factor-F PartHeld LinkHeld MemberHeld StatementHeld AddendHeld ArmHeld BlockHeld BodyHeld FactorHeld ObjectHeld
-      OperationHeld ProcessHeld
-
-  abbrev bare_factor_layer : FactorWith → FactorLayer
-  bare_factor_layer =
-      map-Factor
-      PartHeld LinkHeld MemberHeld StatementHeld AddendHeld ArmHeld BlockHeld BodyHeld FactorHeld ObjectHeld OperationHeld
-      ProcessHeld
-      Expression Link Member Statement Addend Arm Block Body Factor ObjectConstructor Operation Section
-      bare_part bare_link bare_member bare_statement bare_addend bare_arm bare_block bare_body bare_factor bare_object
-      bare_operation bare_section
-
-  abbrev ObjectWith : Type 0
-  ObjectWith =
-      ObjectConstructor-F PartHeld LinkHeld MemberHeld StatementHeld AddendHeld ArmHeld BlockHeld BodyHeld FactorHeld ObjectHeld
-      OperationHeld ProcessHeld
-
-  abbrev bare_object_layer : ObjectWith → ObjectLayer
-  bare_object_layer =
-      map-ObjectConstructor
-      PartHeld LinkHeld MemberHeld StatementHeld AddendHeld ArmHeld BlockHeld BodyHeld FactorHeld ObjectHeld OperationHeld
-      ProcessHeld
-      Expression Link Member Statement Addend Arm Block Body Factor ObjectConstructor Operation Section
-      bare_part bare_link bare_member bare_statement bare_addend bare_arm bare_block bare_body bare_factor bare_object
-      bare_operation bare_section
-
-  abbrev OperationWith : Type 0
-  OperationWith =
-      Operation-F PartHeld LinkHeld MemberHeld StatementHeld AddendHeld ArmHeld BlockHeld BodyHeld FactorHeld ObjectHeld
-      OperationHeld ProcessHeld
-
-  abbrev bare_operation_layer : OperationWith → OperationLayer
-  bare_operation_layer =
-      map-Operation
-      PartHeld LinkHeld MemberHeld StatementHeld AddendHeld ArmHeld BlockHeld BodyHeld FactorHeld ObjectHeld OperationHeld
-      ProcessHeld
-      Expression Link Member Statement Addend Arm Block Body Factor ObjectConstructor Operation Section
-      bare_part bare_link bare_member bare_statement bare_addend bare_arm bare_block bare_body bare_factor bare_object
-      bare_operation bare_section
-
-  abbrev SectionWith : Type 0
-  SectionWith =
-      Section-F PartHeld LinkHeld MemberHeld StatementHeld AddendHeld ArmHeld BlockHeld BodyHeld FactorHeld ObjectHeld
-      OperationHeld ProcessHeld
-
-  abbrev bare_process_layer : SectionWith → SectionLayer
-  bare_process_layer =
-      map-Section
-      PartHeld LinkHeld MemberHeld StatementHeld AddendHeld ArmHeld BlockHeld BodyHeld FactorHeld ObjectHeld OperationHeld
-      ProcessHeld
-      Expression Link Member Statement Addend Arm Block Body Factor ObjectConstructor Operation Section
-      bare_part bare_link bare_member bare_statement bare_addend bare_arm bare_block bare_body bare_factor bare_object
-      bare_operation bare_section
+  abbrev claims : Claims
+  claims = record {
+    expression = TreePartHas;
+    link = TreeLinkHas;
+    member = TreeMemberHas;
+    statement = TreeStatementHas;
+    addend = TreeAddendHas;
+    argument = TreeArgumentHas;
+    arm = TreeArmHas;
+    block = TreeBlockHas;
+    body = TreeBodyHas;
+    factor = TreeFactorHas;
+    object = TreeObjectHas;
+    operation = TreeOperationHas;
+    section = TreeSectionHas;
+  }
 
   -- ---- the induction, by what a layer has
 
@@ -415,7 +197,7 @@ module _ (P : Part → Type 0) (S : StatementPart → Type 0) (B : Piece → Typ
       (block_has : (b : ABlock) → Every S b.statements → B (block_step b)) where
     -- ---- expressions
 
-    parts_are : (y : ExpressionWith) → ExpressionHas (expression_mapped (bare_expression_layer y))
+    parts_are : (y : ExpressionWith claims) → ExpressionHas (expression_mapped (bare_expression claims y))
     parts_are (Expression-F.Number n) = tt
     parts_are (Expression-F.Literal t) = tt
     parts_are (Expression-F.Truth b at) = tt
@@ -438,15 +220,15 @@ module _ (P : Part → Type 0) (S : StatementPart → Type 0) (B : Piece → Typ
     parts_are (Expression-F.And x more) = (x.1, each_held part_of PartHas more)
     parts_are (Expression-F.Or x more) = (x.1, each_held part_of PartHas more)
 
-    part_at : (y : ExpressionWith) → TreePartHas (roll-Expression (bare_expression_layer y))
+    part_at : (y : ExpressionWith claims) → TreePartHas (roll-Expression (bare_expression claims y))
     part_at y = (
-      (roll-Expression (bare_expression_layer y), refl),
-      subst P (sym (part_rolled (bare_expression_layer y))) (expression_has (expression_mapped (bare_expression_layer y)) (parts_are y)),
+      (roll-Expression (bare_expression claims y), refl),
+      subst P (sym (part_rolled (bare_expression claims y))) (expression_has (expression_mapped (bare_expression claims y)) (parts_are y)),
     )
 
     -- ---- statements, arms and blocks
 
-    statement_parts_are : (y : StatementWith) → StatementHas (statement_mapped (bare_statement_layer y))
+    statement_parts_are : (y : StatementWith claims) → StatementHas (statement_mapped (bare_statement claims y))
     statement_parts_are (Statement-F.LocalVariable name of None) = tt
     statement_parts_are (Statement-F.LocalVariable name of (Some x)) = x.1
     statement_parts_are (Statement-F.LocalConstant name of x) = x.1
@@ -467,128 +249,106 @@ module _ (P : Part → Type 0) (S : StatementPart → Type 0) (B : Piece → Typ
     statement_parts_are (Statement-F.Wait name at) = tt
     statement_parts_are (Statement-F.Signal name at) = tt
 
-    statement_at : (y : StatementWith) → TreeStatementHas (roll-Statement (bare_statement_layer y))
+    statement_at : (y : StatementWith claims) → TreeStatementHas (roll-Statement (bare_statement claims y))
     statement_at y =
-        subst S (sym (statement_rolled (bare_statement_layer y)))
-        (statement_has (statement_mapped (bare_statement_layer y)) (statement_parts_are y))
+        subst S (sym (statement_rolled (bare_statement claims y)))
+        (statement_has (statement_mapped (bare_statement claims y)) (statement_parts_are y))
 
-    arm_at : (y : ArmWith) → TreeArmHas (roll-Arm (bare_arm_layer y))
-    arm_at y = subst ArmHas (sym (arm_rolled (bare_arm_layer y))) (y.condition.1, y.block.1)
+    arm_at : (y : ArmWith claims) → TreeArmHas (roll-Arm (bare_arm claims y))
+    arm_at y = subst ArmHas (sym (arm_rolled (bare_arm claims y))) (y.condition.1, y.block.1)
 
-    block_at : (y : BlockWith) → TreeBlockHas (roll-Block (bare_block_layer y))
+    block_at : (y : BlockWith claims) → TreeBlockHas (roll-Block (bare_block claims y))
     block_at y = (
-      (roll-Block (bare_block_layer y), refl),
-      subst B (sym (block_rolled (bare_block_layer y)))
-          (block_has (block_mapped (bare_block_layer y)) (each_held statement_of S y.statements)),
+      (roll-Block (bare_block claims y), refl),
+      subst B (sym (block_rolled (bare_block claims y)))
+          (block_has (block_mapped (bare_block claims y)) (each_held statement_of S y.statements)),
     )
 
     -- ---- links, factors and addends
 
-    link_is : (y : LinkWith) → LinkHas (link_step (link_mapped (bare_link_layer y)))
-    link_is (Link-F.Call name xs) = each_held part_of PartHas xs
+    link_is : (y : LinkWith claims) → LinkHas (link_step (link_mapped (bare_link claims y)))
+    link_is (Link-F.Call name xs) = each_within argument_of (λ a. a.value) PartHas xs
     link_is (Link-F.Index x at) = x.1
 
-    link_at : (y : LinkWith) → TreeLinkHas (roll-Link (bare_link_layer y))
-    link_at y = subst LinkHas (sym (link_rolled (bare_link_layer y))) (link_is y)
+    link_at : (y : LinkWith claims) → TreeLinkHas (roll-Link (bare_link claims y))
+    link_at y = subst LinkHas (sym (link_rolled (bare_link claims y))) (link_is y)
 
-    factor_at : (y : FactorWith) → TreeFactorHas (roll-Factor (bare_factor_layer y))
-    factor_at y = subst FactorHas (sym (factor_rolled (bare_factor_layer y))) y.value.1
+    argument_at : (y : ArgumentWith claims) → TreeArgumentHas (roll-Argument (bare_argument claims y))
+    argument_at y = subst (λ a. PartHas a.value) (sym (argument_rolled (bare_argument claims y))) y.value.1
 
-    addend_at : (y : AddendWith) → TreeAddendHas (roll-Addend (bare_addend_layer y))
-    addend_at y = subst AddendHas (sym (addend_rolled (bare_addend_layer y))) y.value.1
+    factor_at : (y : FactorWith claims) → TreeFactorHas (roll-Factor (bare_factor claims y))
+    factor_at y = subst FactorHas (sym (factor_rolled (bare_factor claims y))) y.value.1
+
+    addend_at : (y : AddendWith claims) → TreeAddendHas (roll-Addend (bare_addend claims y))
+    addend_at y = subst AddendHas (sym (addend_rolled (bare_addend claims y))) y.value.1
 
     -- ---- members and bodies
 
-    member_is : (y : MemberWith) → MemberHas (member_step (member_mapped (bare_member_layer y)))
+    member_is : (y : MemberWith claims) → MemberHas (member_step (member_mapped (bare_member claims y)))
     member_is (Member-F.Member::Variable is_attached name of None) = tt
     member_is (Member-F.Member::Variable is_attached name of (Some x)) = x.1
     member_is (Member-F.Constant is_attached name of x) = x.1
     member_is (Member-F.Condition name) = tt
     member_is (Member-F.Operation o) = o.1
 
-    member_at : (y : MemberWith) → TreeMemberHas (roll-Member (bare_member_layer y))
-    member_at y = subst MemberHas (sym (member_rolled (bare_member_layer y))) (member_is y)
+    member_at : (y : MemberWith claims) → TreeMemberHas (roll-Member (bare_member claims y))
+    member_at y = subst MemberHas (sym (member_rolled (bare_member claims y))) (member_is y)
 
-    operation_at : (y : OperationWith) → TreeOperationHas (roll-Operation (bare_operation_layer y))
-    operation_at y = subst OperationHas (sym (operation_rolled (bare_operation_layer y))) y.block.1
+    abbrev with_failure : OperationWith claims → Option (Held TreeSectionHas) → OperationWith claims
+    with_failure y failure = record y { failure = failure }
 
-    process_at : (y : SectionWith) → TreeProcessHas (roll-Section (bare_process_layer y))
-    process_at y = subst ProcessHas (sym (section_rolled (bare_process_layer y))) y.block.1
+    operation_is : (y : OperationWith claims) (failure : Option (Held TreeSectionHas)) →
+        OperationHas (operation_step (operation_mapped (bare_operation claims (with_failure y failure))))
+    operation_is y None = (y.block.1, tt)
+    operation_is y (Some c) = (y.block.1, c.1)
 
-    abbrev body_layer : List MemberHeld → Option BlockHeld → Option ProcessHeld → BodyWith
-    body_layer ms i p = record { members = ms; initially = i; process = p }
+    operation_at : (y : OperationWith claims) → TreeOperationHas (roll-Operation (bare_operation claims y))
+    operation_at y = subst OperationHas (sym (operation_rolled (bare_operation claims y))) (operation_is y y.failure)
 
-    body_is : (ms : List MemberHeld) (i : Option BlockHeld) (p : Option ProcessHeld) →
-        BodyHas (body_step (body_mapped (bare_body_layer (body_layer ms i p))))
-    body_is ms None None = (each_held member_of MemberHas ms, tt, tt)
-    body_is ms None (Some p) = (each_held member_of MemberHas ms, tt, p.1)
-    body_is ms (Some i) None = (each_held member_of MemberHas ms, i.1, tt)
-    body_is ms (Some i) (Some p) = (each_held member_of MemberHas ms, i.1, p.1)
+    section_at : (y : SectionWith claims) → TreeSectionHas (roll-Section (bare_section claims y))
+    section_at y = subst SectionHas (sym (section_rolled (bare_section claims y))) y.block.1
 
-    body_at : (y : BodyWith) → TreeBodyHas (roll-Body (bare_body_layer y))
-    body_at y = subst BodyHas (sym (body_rolled (bare_body_layer y))) (body_is y.members y.initially y.process)
+    abbrev body_layer : List (Held TreeMemberHas) → Option (Held TreeSectionHas) → Option (Held TreeSectionHas) → Span →
+        BodyWith claims
+    body_layer ms i p at = record { members = ms; initially = i; process = p; end_at = at }
 
-    object_at : (y : ObjectWith) → TreeObjectHas (roll-ObjectConstructor (bare_object_layer y))
-    object_at y = subst ObjectHas (sym (object_rolled (bare_object_layer y))) ((y.body.0, refl), y.body.1)
+    body_is : (ms : List (Held TreeMemberHas)) (i p : Option (Held TreeSectionHas)) (at : Span) →
+        BodyHas (body_step (body_mapped (bare_body claims (body_layer ms i p at))))
+    body_is ms None None at = (each_held member_of MemberHas ms, tt, tt)
+    body_is ms None (Some p) at = (each_held member_of MemberHas ms, tt, p.1)
+    body_is ms (Some i) None at = (each_held member_of MemberHas ms, i.1, tt)
+    body_is ms (Some i) (Some p) at = (each_held member_of MemberHas ms, i.1, p.1)
+
+    body_at : (y : BodyWith claims) → TreeBodyHas (roll-Body (bare_body claims y))
+    body_at y = subst BodyHas (sym (body_rolled (bare_body claims y))) (body_is y.members y.initially y.process y.end_at)
+
+    object_at : (y : ObjectWith claims) → TreeObjectHas (roll-ObjectConstructor (bare_object claims y))
+    object_at y = subst ObjectHas (sym (object_rolled (bare_object claims y))) ((y.body.0, refl), y.body.1)
 
     -- ---- the induction
 
-    part_from : (x : ExpressionLayer) (y : ExpressionWith) → bare_expression_layer y ≡ x → TreePartHas (roll-Expression x)
-    part_from x y is = subst (λ z. TreePartHas (roll-Expression z)) is (part_at y)
-
-    link_from : (x : LinkLayer) (y : LinkWith) → bare_link_layer y ≡ x → TreeLinkHas (roll-Link x)
-    link_from x y is = subst (λ z. TreeLinkHas (roll-Link z)) is (link_at y)
-
-    member_from : (x : MemberLayer) (y : MemberWith) → bare_member_layer y ≡ x → TreeMemberHas (roll-Member x)
-    member_from x y is = subst (λ z. TreeMemberHas (roll-Member z)) is (member_at y)
-
-    statement_from : (x : StatementLayer) (y : StatementWith) → bare_statement_layer y ≡ x → TreeStatementHas (roll-Statement x)
-    statement_from x y is = subst (λ z. TreeStatementHas (roll-Statement z)) is (statement_at y)
-
-    addend_from : (x : AddendLayer) (y : AddendWith) → bare_addend_layer y ≡ x → TreeAddendHas (roll-Addend x)
-    addend_from x y is = subst (λ z. TreeAddendHas (roll-Addend z)) is (addend_at y)
-
-    arm_from : (x : ArmLayer) (y : ArmWith) → bare_arm_layer y ≡ x → TreeArmHas (roll-Arm x)
-    arm_from x y is = subst (λ z. TreeArmHas (roll-Arm z)) is (arm_at y)
-
-    block_from : (x : BlockLayer) (y : BlockWith) → bare_block_layer y ≡ x → TreeBlockHas (roll-Block x)
-    block_from x y is = subst (λ z. TreeBlockHas (roll-Block z)) is (block_at y)
-
-    body_from : (x : BodyLayer) (y : BodyWith) → bare_body_layer y ≡ x → TreeBodyHas (roll-Body x)
-    body_from x y is = subst (λ z. TreeBodyHas (roll-Body z)) is (body_at y)
-
-    factor_from : (x : FactorLayer) (y : FactorWith) → bare_factor_layer y ≡ x → TreeFactorHas (roll-Factor x)
-    factor_from x y is = subst (λ z. TreeFactorHas (roll-Factor z)) is (factor_at y)
-
-    object_from : (x : ObjectLayer) (y : ObjectWith) → bare_object_layer y ≡ x → TreeObjectHas (roll-ObjectConstructor x)
-    object_from x y is = subst (λ z. TreeObjectHas (roll-ObjectConstructor z)) is (object_at y)
-
-    operation_from : (x : OperationLayer) (y : OperationWith) → bare_operation_layer y ≡ x → TreeOperationHas (roll-Operation x)
-    operation_from x y is = subst (λ z. TreeOperationHas (roll-Operation z)) is (operation_at y)
-
-    process_from : (x : SectionLayer) (y : SectionWith) → bare_process_layer y ≡ x → TreeProcessHas (roll-Section x)
-    process_from x y is = subst (λ z. TreeProcessHas (roll-Section z)) is (process_at y)
+    passes : Passes claims
+    passes = record {
+      expression = part_at;
+      link = link_at;
+      member = member_at;
+      statement = statement_at;
+      addend = addend_at;
+      argument = argument_at;
+      arm = arm_at;
+      block = block_at;
+      body = body_at;
+      factor = factor_at;
+      object = object_at;
+      operation = operation_at;
+      section = section_at;
+    }
 
     pub part_has : (x : Expression) → TreePartHas x
-    part_has =
-        ind-Expression
-        TreePartHas TreeLinkHas TreeMemberHas TreeStatementHas TreeAddendHas TreeArmHas TreeBlockHas TreeBodyHas
-        TreeFactorHas TreeObjectHas TreeOperationHas TreeProcessHas
-        part_from link_from member_from statement_from addend_from arm_from block_from body_from factor_from object_from
-        operation_from process_from
+    part_has = expression_holds passes
 
     pub body_has : (x : Body) → TreeBodyHas x
-    body_has =
-        ind-Body
-        TreePartHas TreeLinkHas TreeMemberHas TreeStatementHas TreeAddendHas TreeArmHas TreeBlockHas TreeBodyHas
-        TreeFactorHas TreeObjectHas TreeOperationHas TreeProcessHas
-        part_from link_from member_from statement_from addend_from arm_from block_from body_from factor_from object_from
-        operation_from process_from
+    body_has = body_holds passes
 
     pub block_of_has : (x : Block) → TreeBlockHas x
-    block_of_has =
-        ind-Block
-        TreePartHas TreeLinkHas TreeMemberHas TreeStatementHas TreeAddendHas TreeArmHas TreeBlockHas TreeBodyHas
-        TreeFactorHas TreeObjectHas TreeOperationHas TreeProcessHas
-        part_from link_from member_from statement_from addend_from arm_from block_from body_from factor_from object_from
-        operation_from process_from
+    block_of_has = block_holds passes

@@ -384,7 +384,7 @@ pub each_waits : (table : Table) (program : Program) → IsTable (declarations_o
 each_waits table program is none =
     each_operation table program (UsesItsConditions (core_of table program).classes) is none
     (record {
-      named = λ scope h known o tree e. named_uses scope h known o tree e;
+      named = λ scope h known o tree clause e. named_uses scope h known o tree e;
       first = λ scope h known. first_may scope h known;
       process = λ scope h known p tree e. section_uses scope h known p tree e;
     })

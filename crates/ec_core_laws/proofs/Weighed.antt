@@ -1,6 +1,7 @@
 -- How large a part of the core and all that is made within it are, by the nodes of the part of the tree.
 use Rattle.std.proofs.Common.{◌≡◌, ℕ, ◌+◌, ◌≤◌, List, [], ◌∷◌, ◌++◌, length, map, Option, Some, None}
 use Rattle.std.proofs.Common.{option_map, refl, sym, ap, ◌∙◌, arith}
+use Rattle.std.proofs.Math.Path.{ap₂}
 use Rattle.ec_ast.specs.declared.Block.{Block}
 use Rattle.ec_ast.specs.declared.Body.{roll-Body}
 use Rattle.ec_ast.specs.declared.Expression.{Expression, roll-Expression}
@@ -29,14 +30,23 @@ use Rattle.ec_core_laws.specs.Measures.{all_of, if_there, expression_size, link_
 use Rattle.ec_core_laws.specs.Measures.{size_of_factor, size_of_addend, statement_size, arm_size, block_size, size_of_statement}
 use Rattle.ec_core_laws.specs.Measures.{size_of_arm, size_of_block}
 use Rattle.ec_core_laws.proofs.CoreSizesTextParts.{nodes, rolled}
+use Rattle.ec_core_laws.proofs.CoreSizesTextParts.{call_nodes}
 use Rattle.ec_core_laws.specs.Captures.{expression_captures, link_captures, factor_captures, addend_captures, captures_of}
 use Rattle.ec_core_laws.specs.Captures.{captures_of_link, captures_of_factor, captures_of_addend, statement_captures, arm_captures}
 use Rattle.ec_core_laws.specs.Captures.{block_captures, captures_of_statement, captures_of_arm, captures_of_block}
 use Rattle.ec_core_laws.specs.Limits.{captured_by, captures_of_operations, size_of_operations}
 use Rattle.ec_core_laws.specs.TreeNodes.{expression_nodes, statement_nodes}
 use Rattle.ec_core_laws.specs.Ties.{just, with_links}
+use Rattle.ec_core_laws.specs.Ties.{values_of}
 use Rattle.ec_ast.specs.Kinds.{ExpressionLayer, StatementLayer}
+use Rattle.ec_ast.specs.Kinds.{OperationLayer}
 use Rattle.ec_ast.specs.Layers as layers
+use Rattle.ec_ast.specs.declared.Argument.{Argument, out-Argument, roll-out-Argument}
+use Rattle.ec_ast.specs.declared.Operation.{roll-Operation, out-roll-Operation}
+use Rattle.ec_ast.specs.declared.Link.TheVariants as tree_link
+use Rattle.ec_ast.specs.declared.Name.{Name}
+use Rattle.ec_ast.specs.declared.Span.{Span}
+use Rattle.ec_ast.proofs.Rolled.{operation_stepped}
 
 -- A part has this size and captures so many values. With all that is made within it it has no more nodes than the tree has there,
 -- and captures no more values than the classes that are made there capture names.
@@ -164,6 +174,19 @@ in_parentheses {x = x} v r h = same refl refl (nodes_are x v r) h
 pub object_nodes : (o : ObjectConstructor) → nodes.object o ≡ 1 + nodes.body (out-ObjectConstructor o).body
 object_nodes o = ap nodes.object (sym (roll-out-ObjectConstructor o)) ∙ rolled.object (out-ObjectConstructor o)
 
+-- ---- arguments, which count for their values
+
+argument_nodes : (a : Argument) → nodes.argument a ≡ nodes.expression (out-Argument a).value
+argument_nodes a = ap nodes.argument (sym (roll-out-Argument a)) ∙ rolled.argument (out-Argument a)
+
+value_nodes : (xs : List Argument) → map nodes.argument xs ≡ map nodes.expression (values_of xs)
+value_nodes [] = refl
+value_nodes (x ∷ xs) = ap₂ ◌∷◌ (argument_nodes x) (value_nodes xs)
+
+pub call_is : (name : Name) (xs : List Argument) →
+    nodes.link (tree_link.Call name xs) ≡ 1 + all_of (map nodes.expression (values_of xs))
+call_is name xs = call_nodes name xs ∙ ap (λ ns. 1 + all_of ns) (value_nodes xs)
+
 -- ---- links
 
 pub link_size_is : (x : CoreLink) (y : CoreLink-F CoreExpression CoreLink CoreAddend CoreFactor) → core_roll_link y ≡ x →
@@ -252,10 +275,17 @@ target_parts y ks link number top n c =
 
 -- ---- bodies
 
-pub body_is : (xs : List Member) (i : Option Block) (p : Option Section) →
-    nodes.body (roll-Body (record { members = xs; initially = i; process = p }))
-    ≡ all_of (map nodes.member xs) + (if_there (option_map nodes.block i) + if_there (option_map nodes.process p))
-body_is xs None None = rolled.body (record { members = xs; initially = None; process = None })
-body_is xs None (Some p) = rolled.body (record { members = xs; initially = None; process = Some p })
-body_is xs (Some b) None = rolled.body (record { members = xs; initially = Some b; process = None })
-body_is xs (Some b) (Some p) = rolled.body (record { members = xs; initially = Some b; process = Some p })
+-- an operation: its block, and its clause
+pub operation_is : (o : OperationLayer) →
+    nodes.operation (roll-Operation o) ≡ nodes.block o.block + if_there (option_map nodes.section o.failure)
+operation_is o =
+    operation_stepped rolled (roll-Operation o)
+    ∙ ap (λ (y : OperationLayer). nodes.block y.block + if_there (option_map nodes.section y.failure)) (out-roll-Operation o)
+
+pub body_is : (xs : List Member) (i p : Option Section) (at : Span) →
+    nodes.body (roll-Body (record { members = xs; initially = i; process = p; end_at = at }))
+    ≡ all_of (map nodes.member xs) + (if_there (option_map nodes.section i) + if_there (option_map nodes.section p))
+body_is xs None None at = rolled.body (record { members = xs; initially = None; process = None; end_at = at })
+body_is xs None (Some p) at = rolled.body (record { members = xs; initially = None; process = Some p; end_at = at })
+body_is xs (Some b) None at = rolled.body (record { members = xs; initially = Some b; process = None; end_at = at })
+body_is xs (Some b) (Some p) at = rolled.body (record { members = xs; initially = Some b; process = Some p; end_at = at })

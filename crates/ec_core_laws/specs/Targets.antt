@@ -47,6 +47,7 @@ kinds = record {
   member = Targets;
   statement = Targets;
   addend = Targets;
+  argument = Part;
   arm = Targets;
   block = Targets;
   body = Targets;
@@ -127,12 +128,13 @@ steps = record {
   member = within_member;
   statement = within_statement;
   addend = λ a. a.value.within;
+  argument = λ a. a.value;
   arm = λ a. a.condition.within ++ a.block;
   block = λ b. joined b.statements;
   body = within_body;
   factor = λ f. f.value.within;
   object = λ o. o.body;
-  operation = λ o. o.block;
+  operation = λ o. o.block ++ if_there o.failure;
   section = λ p. p.block;
 }
 

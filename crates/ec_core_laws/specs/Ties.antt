@@ -67,6 +67,7 @@ use Rattle.ec_rules.specs.Tree.{class_part, object_of, part_of, statement_of}
 use Rattle.ec_types.specs.declared.scopes.globals.ClassMeant.{ClassMeant}
 use Rattle.ec_types.specs.declared.scopes.scope.Scope.{Scope}
 use Rattle.ec_types.specs.Scopes.{class_named, in_a_loop, in_a_process, written_in}
+use Rattle.ec_ast.specs.declared.Argument.{Argument, out-Argument}
 
 -- ---- calls and indices
 
@@ -123,6 +124,7 @@ first_of scope h variables statements = record {
   has_result = false;
   variables = variables;
   block = core_block (record { statements = statements });
+  clause = None;
 }
 
 -- the process section, told at the word `process`
@@ -137,6 +139,7 @@ section_of class name at variables block = record {
   has_result = false;
   variables = variables;
   block = block;
+  clause = None;
 }
 
 abbrev pub result_types : Scope → Option Parameter → List StaticType
@@ -152,6 +155,10 @@ abbrev pub behind_heading : Env → List Parameter → Option Parameter → Env
 behind_heading env parameters result =
     behind env (parameter_entries env.scope parameters ++ result_entries env.scope result)
     (length (heading_types env.scope parameters result))
+
+-- the values of arguments
+abbrev pub values_of : List Argument → List Expression
+values_of arguments = map (λ a. (out-Argument a).value) arguments
 
 abbrev pub just : CoreOperation → Made
 just o = record { classes = []; operations = o ∷ [] }
@@ -186,9 +193,9 @@ mutual
     chain : {env : Env} {x : Expression} {xs : List Link} {y : CoreExpression} {ks : List CoreLink} {m n : Made} →
         TiedExpression env x y m → AreLinks env xs ks n → TiedExpression env (tree.Postfix x xs) (with_links y ks) (both_made m n)
     -- `NAME.create`: the name is that of a class, and of no value.
-    creation : {env : Env} (name word : Name) {c : ClassMeant} {xs : List Expression} {links : List Link} {ys : List CoreExpression}
+    creation : {env : Env} (name word : Name) {c : ClassMeant} {xs : List Argument} {links : List Link} {ys : List CoreExpression}
         {ks : List CoreLink} {m n : Made} →
-        class_named env.scope name.text ≡ Some c → is_same word.text (codes "create") ≡ true → AreTied env xs ys m →
+        class_named env.scope name.text ≡ Some c → is_same word.text (codes "create") ≡ true → AreTied env (values_of xs) ys m →
         AreLinks env links ks n →
         TiedExpression env (tree.Postfix (tree.Variable name) (tree_link.Call word xs ∷ links)) (with_links (e.Create c.number ys) ks)
         (both_made m n)
@@ -222,11 +229,11 @@ mutual
   -- calls, told at the operation's name, and indices, told at the `[`
   pub data AreLinks : Env → List Link → List CoreLink → Made → Type 0 where
     links_end : {env : Env} → AreLinks env [] [] nothing_made
-    invoke : {env : Env} {name : Name} {xs : List Expression} {links : List Link} {ys : List CoreExpression} {of : Option StaticType}
-        {ks : List CoreLink} {m n : Made} → AreTied env xs ys m → AreLinks env links ks n →
+    invoke : {env : Env} {name : Name} {xs : List Argument} {links : List Link} {ys : List CoreExpression} {of : Option StaticType}
+        {ks : List CoreLink} {m n : Made} → AreTied env (values_of xs) ys m → AreLinks env links ks n →
         AreLinks env (tree_link.Call name xs ∷ links) (l.Invoke name.text ys of name.at.from ∷ ks) (both_made m n)
-    call : {env : Env} {b : Builtin} {name : Name} {xs : List Expression} {links : List Link} {ys : List CoreExpression}
-        {ks : List CoreLink} {m n : Made} → IsBuiltin b name.text → AreTied env xs ys m → AreLinks env links ks n →
+    call : {env : Env} {b : Builtin} {name : Name} {xs : List Argument} {links : List Link} {ys : List CoreExpression}
+        {ks : List CoreLink} {m n : Made} → IsBuiltin b name.text → AreTied env (values_of xs) ys m → AreLinks env links ks n →
         AreLinks env (tree_link.Call name xs ∷ links) (l.Call b ys name.at.from ∷ ks) (both_made m n)
     element : {env : Env} {x : Expression} {at : Span} {links : List Link} {y : CoreExpression} {of : StaticType} {ks : List CoreLink}
         {m n : Made} → TiedExpression env x y m → AreLinks env links ks n →
@@ -348,9 +355,11 @@ mutual
         {m : Made} → AreMembers class env xs fields ys conditions m →
         AreMembers class env (member.Condition name ∷ xs) fields ys (1 + conditions) m
     -- told at its name
-    operation : {class : ℕ} {env : Env} (is_exported : Bool) (name end_name : Name) (parameters : List Parameter)
-        (result : Option Parameter) {x : Block} {xs : List Member} {fields : List Field} {y : CoreBlock} {ys : List CoreStatement}
-        {ts : List StaticType} {conditions : ℕ} {m n : Made} → TiedBlock (behind_heading env parameters result) x y ts m →
+    operation : {class : ℕ} {env : Env} (is_exported : Bool) (name end_name : Name) (end_at : Span) (parameters : List Parameter)
+        (result : Option Parameter) {x : Block} {failure : Option Section} {xs : List Member} {fields : List Field} {y : CoreBlock}
+        {clause : Option CoreBlock} {ys : List CoreStatement}
+        {ts us : List StaticType} {conditions : ℕ} {m k n : Made} → TiedBlock (behind_heading env parameters result) x y ts m →
+        IsClause (further (behind_heading env parameters result) (length ts)) failure clause us k →
         AreMembers class env xs fields ys conditions n →
         AreMembers class env
         (member.Operation
@@ -361,7 +370,9 @@ mutual
           parameters = parameters;
           result = result;
           block = x;
+          failure = failure;
           end_name = end_name;
+          end_at = end_at;
         })) ∷ xs)
         fields ys conditions
         (both_made
@@ -375,30 +386,38 @@ mutual
           is_exported = is_exported;
           parameters = length parameters;
           has_result = is_some result;
-          variables = heading_types env.scope parameters result ++ ts;
+          variables = heading_types env.scope parameters result ++ (ts ++ us);
           block = y;
-        })) m) n)
+          clause = clause;
+        })) (both_made m k)) n)
 
-  pub data IsInitially : Env → Option Block → List CoreStatement → List StaticType → Made → Type 0 where
+  -- a failure clause, whose variables are numbered behind those of its operation's block
+  pub data IsClause : Env → Option Section → Option CoreBlock → List StaticType → Made → Type 0 where
+    no_clause : {env : Env} → IsClause env None None [] nothing_made
+    clause : {env : Env} (at end_at : Span) {x : Block} {y : CoreBlock} {ts : List StaticType} {m : Made} → TiedBlock env x y ts m →
+        IsClause env (Some (roll-Section (record { block = x; at = at; end_at = end_at }))) (Some y) ts m
+
+  pub data IsInitially : Env → Option Section → List CoreStatement → List StaticType → Made → Type 0 where
     no_initially : {env : Env} → IsInitially env None [] [] nothing_made
-    initially : {env : Env} {x : Block} {ys : List CoreStatement} {ts : List StaticType} {m : Made} →
-        TiedBlock env x (core_block (record { statements = ys })) ts m → IsInitially env (Some x) ys ts m
+    initially : {env : Env} (at end_at : Span) {x : Block} {ys : List CoreStatement} {ts : List StaticType} {m : Made} →
+        TiedBlock env x (core_block (record { statements = ys })) ts m →
+        IsInitially env (Some (roll-Section (record { block = x; at = at; end_at = end_at }))) ys ts m
 
   pub data IsProcess : ℕ → Env → Name → Option Section → Made → Type 0 where
     no_process : {class : ℕ} {env : Env} {name : Name} → IsProcess class env name None nothing_made
-    process : {class : ℕ} {env : Env} {name : Name} (at : Span) {x : Block} {y : CoreBlock} {ts : List StaticType} {m : Made} →
+    process : {class : ℕ} {env : Env} {name : Name} (at end_at : Span) {x : Block} {y : CoreBlock} {ts : List StaticType} {m : Made} →
         TiedBlock (record { scope = in_a_process env.scope; captures = env.captures; numbers = []; count = 0 }) x y ts m →
-        IsProcess class env name (Some (roll-Section (record { block = x; at = at })))
+        IsProcess class env name (Some (roll-Section (record { block = x; at = at; end_at = end_at })))
         (both_made (just (section_of class name at ts y)) m)
 
   -- What a class or an object constructor makes, in the scope around it: its class; operation 0; then what stands in its body.
   pub data TiedHolder : Scope → Holder → Body → Made → Type 0 where
-    holder : {scope : Scope} {h : Holder} {members : List Member} {first : Option Block} {section : Option Section}
+    holder : {scope : Scope} {h : Holder} {members : List Member} {first section : Option Section} {end_at : Span}
         {types : List StaticType} {fields : List Field} {stores ys : List CoreStatement} {ts : List StaticType} {conditions : ℕ}
         {m n k : Made} → length types ≡ length (captures_of scope h) →
         AreMembers (number_of scope h) (in_body scope h) members fields stores conditions m → IsInitially (in_body scope h) first ys ts n →
         IsProcess (number_of scope h) (in_body scope h) h.name section k →
-        TiedHolder scope h (roll-Body (record { members = members; initially = first; process = section }))
+        TiedHolder scope h (roll-Body (record { members = members; initially = first; process = section; end_at = end_at }))
         (both_made
         (record { classes = class_of scope h types fields conditions ∷ []; operations = first_of scope h ts (stores ++ ys) ∷ [] })
         (both_made m (both_made n k)))

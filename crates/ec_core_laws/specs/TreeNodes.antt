@@ -19,6 +19,7 @@ kinds = record {
   member = ℕ;
   statement = ℕ;
   addend = ℕ;
+  argument = ℕ;
   arm = ℕ;
   block = ℕ;
   body = ℕ;
@@ -84,12 +85,13 @@ steps = record {
   member = member_nodes;
   statement = statement_nodes;
   addend = λ a. 1 + a.value;
+  argument = λ a. a.value;
   arm = λ a. a.condition + a.block;
   block = λ b. all_of b.statements;
   body = body_nodes;
   factor = λ f. 1 + f.value;
   object = λ o. 1 + o.body;
-  operation = λ o. o.block;
+  operation = λ o. o.block + if_there o.failure;
   section = λ p. p.block;
 }
 

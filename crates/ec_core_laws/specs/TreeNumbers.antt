@@ -29,6 +29,7 @@ kinds = record {
   member = Numbers;
   statement = Numbers;
   addend = Numbers;
+  argument = Numbers;
   arm = Numbers;
   block = Numbers;
   body = Numbers;
@@ -94,12 +95,13 @@ steps = record {
   member = member_numbers;
   statement = statement_numbers;
   addend = λ a. a.value;
+  argument = λ a. a.value;
   arm = λ a. a.condition ++ a.block;
   block = λ b. joined b.statements;
   body = body_numbers;
   factor = λ f. f.value;
   object = λ o. o.body;
-  operation = λ o. o.block;
+  operation = λ o. o.block ++ if_there o.failure;
   section = λ p. p.block;
 }
 

@@ -21,6 +21,7 @@ kinds = record {
   member = Texts;
   statement = Texts;
   addend = Texts;
+  argument = Texts;
   arm = Texts;
   block = Texts;
   body = Texts;
@@ -86,12 +87,13 @@ steps = record {
   member = member_texts;
   statement = statement_texts;
   addend = λ a. a.value;
+  argument = λ a. a.value;
   arm = λ a. a.condition ++ a.block;
   block = λ b. joined b.statements;
   body = body_texts;
   factor = λ f. f.value;
   object = λ o. o.body;
-  operation = λ o. o.block;
+  operation = λ o. o.block ++ if_there o.failure;
   section = λ p. p.block;
 }
 
