@@ -301,33 +301,37 @@ module _ (scope : Scope) (captures : List Text) (class : ℕ) (is_monitored : Bo
           (b.locals (rules.scope_of_operation scope (operation_judged o))) (b.made (rules.scope_of_operation scope (operation_judged o))))
           same (h (env_of_operation env o))
 
+  -- where the clause of an operation begins
+  abbrev behind : OperationPart → Env
+  behind o = behind_block (env_of_operation env o) o.block
+
   clause_behind : (x : Option Section) (o : OperationPart) → Where SectionTied x → o.failure ≡ block_in (option_map section_of x) →
       ReadyOperation o →
       IsClause (further (behind_heading env o.parameters o.result) (length (o.block.locals (within o)))) x
-      (core_of_block (behind_block (env_of_operation env o) o.block) o.failure) (locals_of_block (within o) o.failure)
+      (core_of_block (behind o) o.failure) (locals_of_block (within o) o.failure)
       (initially_made (within o) o.failure)
   clause_behind x o h is r =
       subst
       (λ at.
       IsClause (further at (length (o.block.locals (within o)))) x
-      (core_of_block (behind_block (env_of_operation env o) o.block) o.failure) (locals_of_block (within o) o.failure)
+      (core_of_block (behind o) o.failure) (locals_of_block (within o) o.failure)
       (initially_made (within o) o.failure))
       (heading_same scope captures o) (tied o.failure (sym is) (second_ready _ _ _ _ (blocks_ready o r)))
     where
-      abbrev at : Env
-      at = behind_block (env_of_operation env o) o.block
-
       tied : (c : Option Piece) → block_in (option_map section_of x) ≡ c →
           Ready (env_of_operation env o) (clause_finished (within o) (option_map (λ p. p.piece) c)).uses
           (clause_finished (within o) (option_map (λ p. p.piece) c)).faults →
-          IsClause at x (core_of_block at c) (locals_of_block (within o) c) (initially_made (within o) c)
+          IsClause (behind o) x (core_of_block (behind o) c) (locals_of_block (within o) c)
+          (initially_made (within o) c)
       tied c same =
           subst
           (λ (c : Option Piece).
           Ready (env_of_operation env o) (clause_finished (within o) (option_map (λ p. p.piece) c)).uses
           (clause_finished (within o) (option_map (λ p. p.piece) c)).faults →
-          IsClause at x (core_of_block at c) (locals_of_block (within o) c) (initially_made (within o) c))
-          same (λ q. clause_tied at x h (record { fit = q.fit; reach = q.reach; faultless = q.faultless }))
+          IsClause (behind o) x (core_of_block (behind o) c) (locals_of_block (within o) c)
+          (initially_made (within o) c))
+          same
+          (λ q. clause_tied (behind o) x h (record { fit = q.fit; reach = q.reach; faultless = q.faultless }))
 
   operation_tied : (xs : List Member) (o : Operation) → OperationTied o →
       FirstMember xs (roll-Member (Member-F.Operation o)) (operation (operation_of o))
@@ -424,7 +428,14 @@ process_tied class scope captures name (Some x) f h r =
 
 abbrev holder_with : Name → Bool → Bool → List Parameter → Name → BodyPart → Holder
 holder_with name is_immutable is_monitored parameters end_name body =
-    record { name = name; is_immutable = is_immutable; is_monitored = is_monitored; parameters = parameters; body = body; end_name = end_name }
+    record {
+      name = name;
+      is_immutable = is_immutable;
+      is_monitored = is_monitored;
+      parameters = parameters;
+      body = body;
+      end_name = end_name;
+    }
 
 abbrev BodyMakes : Scope → Name → Bool → Bool → List Parameter → Name → Body → BodyPart → Type 0
 BodyMakes scope name is_immutable is_monitored parameters end_name x b =
@@ -479,4 +490,5 @@ pub holder_tied : (scope : Scope) (name : Name) (is_immutable is_monitored : Boo
 holder_tied scope name is_immutable is_monitored parameters end_name x h =
     subst (λ y. BodyMakes scope name is_immutable is_monitored parameters end_name y (body_of x)) (roll-out-Body x)
     (subst (BodyMakes scope name is_immutable is_monitored parameters end_name (roll-Body (out-Body x))) (sym (body_step_of x))
-    (body_makes scope name is_immutable is_monitored parameters end_name (out-Body x).members (out-Body x).initially (out-Body x).process (out-Body x).end_at h.0 h.1 h.2))
+    (body_makes scope name is_immutable is_monitored parameters end_name (out-Body x).members (out-Body x).initially (out-Body x).process
+    (out-Body x).end_at h.0 h.1 h.2))
