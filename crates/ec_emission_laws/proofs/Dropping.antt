@@ -274,7 +274,7 @@ pub each_drops : (table : Table) (program : Program) → IsTable (declarations_o
 each_drops table program is none =
     each_operation table program (λ o. drops_block o.block ≡ true) is none
     (record {
-      named = λ scope h known o tree f.
+      named = λ scope h known o tree clause f.
           let heading : unknown_in_operation (scope_in scope h).table o.parameters o.result ≡ [] = none_left _ _ (none_right _ _ f) in
           piece_drops o.block tree (env_of_operation (env_of_body scope h) o)
           (sound_in_operation (scope_in scope h) (operation_judged o) (sound_in scope h known) heading) (block_faultless scope h o f);

@@ -41,6 +41,7 @@ use Rattle.ec_world.specs.Run.{run_after, end_of}
 use Rattle.ec_world.specs.declared.node.Kind.TheVariants.{Riscv}
 use Rattle.ec_world.specs.declared.node.NodeSpec.{NodeSpec}
 use Rattle.ec_world.specs.declared.run.RunEnd.TheVariants.{Finished}
+use Rattle.ec_ast.specs.declared.Section.{roll-Section}
 
 -- as many entries as a run does at most where the words don't say
 abbrev budget : ℕ
@@ -136,9 +137,20 @@ hello_block = statement.Print (expression.Literal (record { text = codes "hi"; a
 abbrev hello_constructor : ObjectConstructor
 hello_constructor = roll-ObjectConstructor (record {
   at = record { from = 14; to = 20 };
+  object_at = record { from = 14; to = 20 };
+  is_immutable = false;
   is_monitored = false;
   name = record { text = codes "main"; at = record { from = 21; to = 25 } };
-  body = roll-Body (record { members = []; initially = Some (roll-Block (record { statements = hello_block })); process = None });
+  body = roll-Body (record {
+    members = [];
+    initially = Some (roll-Section (record {
+      block = roll-Block (record { statements = hello_block });
+      at = record { from = 28; to = 37 };
+      end_at = record { from = 67; to = 70 };
+    }));
+    process = None;
+    end_at = record { from = 81; to = 84 };
+  });
   end_name = record { text = codes "main"; at = record { from = 85; to = 89 } };
 })
 

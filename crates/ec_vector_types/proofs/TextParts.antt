@@ -30,8 +30,10 @@ use Rattle.ec_places.proofs.Among.{Among}
 use Rattle.ec_ast.proofs.Rolled.{Rolled, folded, folds_are_rolled}
 use Rattle.ec_ast.specs.Kinds.{BodyLayer, FactorLayer, ObjectLayer, OperationLayer, SectionLayer, tree}
 use Rattle.ec_ast.specs.Kinds.{ExpressionLayer, LinkLayer, MemberLayer, StatementLayer, AddendLayer, ArmLayer, BlockLayer}
+use Rattle.ec_ast.specs.Kinds.{ArgumentLayer}
 use Rattle.ec_ast.specs.Layers as layers
 use Rattle.ec_ast.specs.Layers.{Maps}
+use Rattle.ec_ast.specs.declared.Argument.{roll-Argument}
 
 -- The first list goes on to the second one, and these types stand up to there, in this order, each behind a word `vector`.
 pub data Taken : List Token → List Token → Written → Type 0 where
@@ -86,6 +88,9 @@ module _ {ts us : List Token} where
   pub of_addend : (y : AddendLayer) → Taken ts us (written.expression y.value) → Taken ts us (written.addend (roll-Addend y))
   of_addend y h = subst (Taken ts us) (sym (rolled.addend y)) h
 
+  pub of_argument : (y : ArgumentLayer) → Taken ts us (written.expression y.value) → Taken ts us (written.argument (roll-Argument y))
+  of_argument y h = subst (Taken ts us) (sym (rolled.argument y)) h
+
   pub of_arm : (y : ArmLayer) → Taken ts us (written.expression y.condition ++ written.block y.block) →
       Taken ts us (written.arm (roll-Arm y))
   of_arm y h = subst (Taken ts us) (sym (rolled.arm y)) h
@@ -103,11 +108,12 @@ module _ {ts us : List Token} where
   pub of_object : (y : ObjectLayer) → Taken ts us (written.body y.body) → Taken ts us (written.object (roll-ObjectConstructor y))
   of_object y h = subst (Taken ts us) (sym (rolled.object y)) h
 
-  pub of_operation : (y : OperationLayer) → Taken ts us (written.block y.block) → Taken ts us (written.operation (roll-Operation y))
+  pub of_operation : (y : OperationLayer) → Taken ts us (steps.operation (layers.operation_mapped written y)) →
+      Taken ts us (written.operation (roll-Operation y))
   of_operation y h = subst (Taken ts us) (sym (rolled.operation y)) h
 
-  pub of_process : (y : SectionLayer) → Taken ts us (written.block y.block) → Taken ts us (written.process (roll-Section y))
-  of_process y h = subst (Taken ts us) (sym (rolled.process y)) h
+  pub of_section : (y : SectionLayer) → Taken ts us (written.block y.block) → Taken ts us (written.section (roll-Section y))
+  of_section y h = subst (Taken ts us) (sym (rolled.section y)) h
 
 -- ---- chains
 
@@ -176,11 +182,11 @@ module _ {ts us : List Token} where
   of_variable is_attached name of (Some x) h =
       of_member (Member-F.Member::Variable is_attached name of (Some x)) (member.rolls-Variable is_attached name of (Some x)) h
 
-  pub of_members : (xs : List Member) (initially : Option Block) (process : Option Section) →
-      Taken ts us ((joined (map written.member xs)) ++ ((if_there (option_map written.block initially)) ++
-      (if_there (option_map written.process process)))) →
-      Taken ts us (written.body (roll-Body (record { members = xs; initially = initially; process = process })))
-  of_members xs None None h = of_body (record { members = xs; initially = None; process = None }) h
-  of_members xs None (Some p) h = of_body (record { members = xs; initially = None; process = Some p }) h
-  of_members xs (Some b) None h = of_body (record { members = xs; initially = Some b; process = None }) h
-  of_members xs (Some b) (Some p) h = of_body (record { members = xs; initially = Some b; process = Some p }) h
+  pub of_members : (xs : List Member) (initially process : Option Section) (at : Span) →
+      Taken ts us ((joined (map written.member xs)) ++ ((if_there (option_map written.section initially)) ++
+      (if_there (option_map written.section process)))) →
+      Taken ts us (written.body (roll-Body (record { members = xs; initially = initially; process = process; end_at = at })))
+  of_members xs None None at h = of_body (record { members = xs; initially = None; process = None; end_at = at }) h
+  of_members xs None (Some p) at h = of_body (record { members = xs; initially = None; process = Some p; end_at = at }) h
+  of_members xs (Some b) None at h = of_body (record { members = xs; initially = Some b; process = None; end_at = at }) h
+  of_members xs (Some b) (Some p) at h = of_body (record { members = xs; initially = Some b; process = Some p; end_at = at }) h

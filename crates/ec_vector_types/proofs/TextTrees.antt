@@ -21,13 +21,14 @@ use Rattle.ec_vector_types.proofs.Reading.{the_word}
 use Rattle.ec_vector_types.proofs.TextParts.{Taken, arrived, passed, vector, and_then, past, skipped, written}
 use Rattle.ec_vector_types.proofs.TextParts.{of_expression, of_link, of_member, of_statement, of_addend, of_arm, of_block, of_factor}
 use Rattle.ec_vector_types.proofs.TextParts.{of_local_variable, of_if, of_variable, of_members}
-use Rattle.ec_vector_types.proofs.TextParts.{of_object, of_operation, of_process, or_chain, and_chain, sum_chain, term_chain, postfix_chain}
+use Rattle.ec_vector_types.proofs.TextParts.{of_object, of_operation, of_argument, of_section, or_chain, and_chain, sum_chain, term_chain, postfix_chain}
 use Rattle.ec_lexer.specs.declared.token.Token.{Token}
 use Rattle.ec_parser.specs.HasTree.{AreFactors}
 use Rattle.ec_parser.specs.HasTree.{Ending, IsPrimary, IsPostfix, AreLinks, AreArguments, AreMoreArguments, IsUnary, IsTerm}
 use Rattle.ec_parser.specs.HasTree.{IsElse, IsBlock, IsMember, AreMembers, IsInitially, IsProcess, IsBody, IsObject}
 use Rattle.ec_parser.specs.HasTree.{IsSum, AreAddends, IsRel, IsNot, IsAnd, AreNots, IsExpr, AreAnds, IsInitial, IsStmt, AreArms}
 use Rattle.ec_places.proofs.Skipped.{flag, brackets, type, type_option, params_option, result}
+use Rattle.ec_ast.specs.declared.Argument.{Argument}
 
 mutual
   -- ---- primaries and postfixes
@@ -61,15 +62,15 @@ mutual
   links (AreLinks.index may e h f k) =
       and_then (of_link _ (link.rolls-Index _ _) (passed (past (expr h) (passed arrived)))) (links k)
 
-  arguments : {ts us : List Token} {xs : List Expression} → AreArguments ts us xs →
-      Taken ts us (joined (map written.expression xs))
+  arguments : {ts us : List Token} {xs : List Argument} → AreArguments ts us xs →
+      Taken ts us (joined (map written.argument xs))
   arguments AreArguments.no_arguments = arrived
-  arguments (AreArguments.arguments h k) = and_then (expr h) (more_arguments k)
+  arguments (AreArguments.arguments h k) = and_then (of_argument _ (expr h)) (more_arguments k)
 
-  more_arguments : {ts us : List Token} {xs : List Expression} → AreMoreArguments ts us xs →
-      Taken ts us (joined (map written.expression xs))
+  more_arguments : {ts us : List Token} {xs : List Argument} → AreMoreArguments ts us xs →
+      Taken ts us (joined (map written.argument xs))
   more_arguments AreMoreArguments.arguments_end = arrived
-  more_arguments (AreMoreArguments.comma_argument e h k) = passed (and_then (expr h) (more_arguments k))
+  more_arguments (AreMoreArguments.comma_argument e h k) = passed (and_then (of_argument _ (expr h)) (more_arguments k))
 
   -- ---- expressions
 
@@ -175,23 +176,23 @@ mutual
       of_member _ (m.rolls-Operation _)
       (of_operation _
       (and_then (skipped (flag is)) (passed (passed (and_then (skipped (params_option ps))
-      (and_then (skipped (result r)) (past (of_block _ (block h)) (passed (passed arrived)))))))))
+      (and_then (skipped (result r)) (and_then (of_block _ (block h)) (passed (passed arrived)))))))))
 
   members : {ts us : List Token} {xs : List Member} → AreMembers ts us xs → Taken ts us (joined (map written.member xs))
   members AreMembers.members_end = arrived
   members (AreMembers.member h k) = and_then (member h) (members k)
 
-  initially : {ts us : List Token} {x : Option Block} → IsInitially ts us x → Taken ts us (if_there (option_map written.block x))
+  initially : {ts us : List Token} {x : Option Section} → IsInitially ts us x → Taken ts us (if_there (option_map written.section x))
   initially IsInitially.no_initially = arrived
-  initially (IsInitially.initially e h f g) = passed (past (of_block _ (block h)) (passed (passed arrived)))
+  initially (IsInitially.initially e h f g) = passed (past (of_section _ (of_block _ (block h))) (passed (passed arrived)))
 
   process : {ts us : List Token} {x : Option Section} → IsProcess ts us x →
-      Taken ts us (if_there (option_map written.process x))
+      Taken ts us (if_there (option_map written.section x))
   process IsProcess.no_process = arrived
-  process (IsProcess.process e h f g) = passed (of_process _ (past (of_block _ (block h)) (passed (passed arrived))))
+  process (IsProcess.process e h f g) = passed (past (of_section _ (of_block _ (block h))) (passed (passed arrived)))
 
   pub body : {ts us : List Token} {x : Body} → IsBody ts us x → Taken ts us (written.body x)
-  body (IsBody.body h k l) = of_members _ _ _ (and_then (members h) (and_then (initially k) (process l)))
+  body (IsBody.body h k l) = of_members _ _ _ _ (and_then (members h) (and_then (initially k) (process l)))
 
   object : {ts us : List Token} {x : ObjectConstructor} → IsObject ts us x → Taken ts us (written.object x)
   object (IsObject.object_constructor is e f h g i) =

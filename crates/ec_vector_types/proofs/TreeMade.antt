@@ -30,6 +30,7 @@ kinds = record {
   member = Written;
   statement = Written;
   addend = Written;
+  argument = Written;
   arm = Written;
   block = Written;
   body = Written;
@@ -94,12 +95,13 @@ steps = record {
   member = member_written;
   statement = statement_written;
   addend = λ a. a.value;
+  argument = λ a. a.value;
   arm = λ a. a.condition ++ a.block;
   block = λ b. joined b.statements;
   body = body_written;
   factor = λ f. f.value;
   object = λ o. o.body;
-  operation = λ o. o.block;
+  operation = λ o. o.block ++ if_there o.failure;
   section = λ p. p.block;
 }
 

@@ -1,8 +1,11 @@
 -- Each vector type that a core makes is that of elements of a type that its tree has where a vector is made: one induction over the relation
 -- that ties a core to its tree.
 use Rattle.std.proofs.Common.{◌≡◌, ℕ, List, [], ◌∷◌, ◌++◌, map, Option, Some, None, option_map, sym, subst}
+use Rattle.std.proofs.Common.{refl, ap, ◌∙◌}
 use Rattle.ec_ast.proofs.Rolled.{Rolled, folds_are_rolled}
+use Rattle.ec_ast.proofs.Rolled.{operation_stepped}
 use Rattle.ec_ast.specs.Kinds.{ExpressionLayer, LinkLayer, MemberLayer, OperationLayer, StatementLayer}
+use Rattle.ec_ast.specs.Kinds.{SectionLayer}
 use Rattle.ec_ast.specs.Layers as layers
 use Rattle.ec_ast.specs.declared.Addend.{Addend, roll-Addend}
 use Rattle.ec_ast.specs.declared.Arm.{Arm, roll-Arm}
@@ -20,7 +23,9 @@ use Rattle.ec_ast.specs.declared.Member.TheVariants as member
 use Rattle.ec_ast.specs.declared.Name.{Name}
 use Rattle.ec_ast.specs.declared.ObjectConstructor.{ObjectConstructor, out-ObjectConstructor, roll-out-ObjectConstructor}
 use Rattle.ec_ast.specs.declared.Operation.{roll-Operation}
+use Rattle.ec_ast.specs.declared.Operation.{out-roll-Operation}
 use Rattle.ec_ast.specs.declared.Section.{Section}
+use Rattle.ec_ast.specs.declared.Section.{roll-Section}
 use Rattle.ec_ast.specs.declared.Statement.{Statement, roll-Statement}
 use Rattle.ec_ast.specs.declared.Statement.TheVariants as tree_statement
 use Rattle.ec_base.specs.Stack.{top_of, below_of}
@@ -47,6 +52,7 @@ use Rattle.ec_core_laws.proofs.Expressions.{expression_is, link_is, addend_is, f
 use Rattle.ec_core_laws.proofs.Statements.{statement_is, arm_is, block_is}
 use Rattle.ec_core_laws.specs.Ties.{AreAddends, AreArms, AreConstants, AreFactors, AreLinks, AreMembers, AreStatements, AreTied, IsElse}
 use Rattle.ec_core_laws.specs.Ties.{IsInitially, IsProcess, TiedBlock, TiedExpression, TiedHolder, TiedStatement, with_links}
+use Rattle.ec_core_laws.specs.Ties.{IsClause}
 use Rattle.ec_core_laws.specs.Ties as ties
 use Rattle.ec_rules.specs.Parts.{Holder}
 use Rattle.ec_types.specs.Names.{Text}
@@ -60,6 +66,9 @@ use Rattle.ec_vector_types.proofs.CoreMade.{made_of, made_of_link, made_of_adden
 use Rattle.ec_vector_types.proofs.TextParts.{written}
 use Rattle.ec_vector_types.proofs.TreeMade.{Written, joined, if_there, steps, written_in_value}
 use Rattle.ec_vector_types.proofs.TreeMade.{expression_written, link_written, member_written, statement_written}
+use Rattle.ec_ast.specs.declared.Argument.{Argument, out-Argument, roll-out-Argument}
+use Rattle.ec_ast.specs.declared.Span.{Span}
+use Rattle.std.proofs.Math.Path.{ap₂}
 
 rolled : Rolled steps written
 rolled = folds_are_rolled steps
@@ -125,37 +134,64 @@ module _ (Q : List Text → StaticType → Type 0) where
         subst (TreeFits names) (rolled.object (out-ObjectConstructor o))
         (subst (λ x. TreeFits names (written.object x)) (sym (roll-out-ObjectConstructor o)) h)
 
-    record InBody (ms : List Member) (b : Option Block) (p : Option Section) : Type 0 where
-      pub members : TreeFits names (joined (map written.member ms))
-      pub first : TreeFits names (if_there (option_map written.block b))
-      pub section : TreeFits names (if_there (option_map written.process p))
+    in_section : (y : SectionLayer) → TreeFits names (written.section (roll-Section y)) → TreeFits names (written.block y.block)
+    in_section y h = subst (TreeFits names) (rolled.section y) h
 
-    in_parts : (members : List Member) (first : Option Block) (section : Option Section) →
+    -- an argument is made for its value
+    given_values : (xs : List Argument) → map written.argument xs ≡ map written.expression (ties.values_of xs)
+    given_values [] = refl
+    given_values (x ∷ xs) =
+        ap₂ ◌∷◌ (ap written.argument (sym (roll-out-Argument x)) ∙ rolled.argument (out-Argument x)) (given_values xs)
+
+    in_values : (xs : List Argument) → TreeFits names (joined (map written.argument xs)) →
+        TreeFits names (joined (map written.expression (ties.values_of xs)))
+    in_values xs h = subst (λ ns. TreeFits names (joined ns)) (given_values xs) h
+
+    in_call : (name : Name) (xs : List Argument) → TreeFits names (written.link (tree_link.Call name xs)) →
+        TreeFits names (joined (map written.expression (ties.values_of xs)))
+    in_call name xs h = in_values xs (in_link (Link-F.Call name xs) (tree_link.rolls-Call name xs) h)
+
+    -- an operation: its block, and its clause
+    in_operation : (y : OperationLayer) → TreeFits names (written.operation (roll-Operation y)) →
+        TreeFits names (written.block y.block ++ if_there (option_map written.section y.failure))
+    in_operation y h =
+        subst (TreeFits names)
+        (operation_stepped rolled (roll-Operation y)
+        ∙ ap (λ (o : OperationLayer). written.block o.block ++ if_there (option_map written.section o.failure)) (out-roll-Operation y)) h
+
+    record InBody (ms : List Member) (b p : Option Section) : Type 0 where
+      pub members : TreeFits names (joined (map written.member ms))
+      pub first : TreeFits names (if_there (option_map written.section b))
+      pub section : TreeFits names (if_there (option_map written.section p))
+
+    in_parts : (members : List Member) (first section : Option Section) →
         TreeFits names
         (joined (map written.member members)
-        ++ (if_there (option_map written.block first) ++ if_there (option_map written.process section))) →
+        ++ (if_there (option_map written.section first) ++ if_there (option_map written.section section))) →
         InBody members first section
     in_parts members first section h =
         let ms : Written = joined (map written.member members) in
-        let fs : Written = if_there (option_map written.block first) in
-        let ss : Written = if_there (option_map written.process section) in
+        let fs : Written = if_there (option_map written.section first) in
+        let ss : Written = if_there (option_map written.section section) in
         let k : TreeFits names (fs ++ ss) = tree_right names ms (fs ++ ss) h in
         record { members = tree_left names ms (fs ++ ss) h; first = tree_left names fs ss k; section = tree_right names fs ss k }
 
-    in_body : (members : List Member) (first : Option Block) (section : Option Section) →
-        TreeFits names (written.body (roll-Body (record { members = members; initially = first; process = section }))) →
+    in_body : (members : List Member) (first section : Option Section) (at : Span) →
+        TreeFits names
+        (written.body (roll-Body (record { members = members; initially = first; process = section; end_at = at }))) →
         InBody members first section
-    in_body members None None h =
-        in_parts members None None (subst (TreeFits names) (rolled.body (record { members = members; initially = None; process = None })) h)
-    in_body members None (Some p) h =
+    in_body members None None at h =
+        in_parts members None None
+        (subst (TreeFits names) (rolled.body (record { members = members; initially = None; process = None; end_at = at })) h)
+    in_body members None (Some p) at h =
         in_parts members None (Some p)
-        (subst (TreeFits names) (rolled.body (record { members = members; initially = None; process = Some p })) h)
-    in_body members (Some b) None h =
+        (subst (TreeFits names) (rolled.body (record { members = members; initially = None; process = Some p; end_at = at })) h)
+    in_body members (Some b) None at h =
         in_parts members (Some b) None
-        (subst (TreeFits names) (rolled.body (record { members = members; initially = Some b; process = None })) h)
-    in_body members (Some b) (Some p) h =
+        (subst (TreeFits names) (rolled.body (record { members = members; initially = Some b; process = None; end_at = at })) h)
+    in_body members (Some b) (Some p) at h =
         in_parts members (Some b) (Some p)
-        (subst (TreeFits names) (rolled.body (record { members = members; initially = Some b; process = Some p })) h)
+        (subst (TreeFits names) (rolled.body (record { members = members; initially = Some b; process = Some p; end_at = at })) h)
 
     -- ---- a layer of the core
 
@@ -307,7 +343,7 @@ module _ (Q : List Text → StaticType → Type 0) where
         let later : TreeFits (names_at env) (given ++ more) =
         tree_right (names_at env) (written.expression (tree.Variable name)) (given ++ more) g in
         let values : Fits env (core.joined (map made_of ys)) m =
-        expressions h (in_link (names_at env) (Link-F.Call word xs) (tree_link.rolls-Call word xs) (tree_left (names_at env) given more later)) in
+        expressions h (in_call (names_at env) word xs (tree_left (names_at env) given more later)) in
         let head : Fits env (made_of (e.Create c.number ys)) m = one env (Form-F.Create c.number ys) (e.rolls-Create c.number ys) values in
         let rest : Fits env (core.joined (map made_of_link ks)) n = links k (tree_right (names_at env) given more later) in
         (linked (names_at env) (e.Create c.number ys) ks head.0 rest.0, both_fit (names_at env) m n head.1 rest.1)
@@ -373,7 +409,7 @@ module _ (Q : List Text → StaticType → Type 0) where
         let given : Written = written.link (tree_link.Call name xs) in
         let more : Written = joined (map written.link behind) in
         let values : Fits env (core.joined (map made_of ys)) m =
-        expressions h (in_link (names_at env) (Link-F.Call name xs) (tree_link.rolls-Call name xs) (tree_left (names_at env) given more f)) in
+        expressions h (in_call (names_at env) name xs (tree_left (names_at env) given more f)) in
         two env (made_of_link (l.Invoke name.text ys of name.at.from)) (core.joined (map made_of_link ks)) m n
         (made_link (names_at env) (CoreLink-F.Invoke name.text ys of name.at.from) (l.rolls-Invoke name.text ys of name.at.from) values.0, values.1)
         (links k (tree_right (names_at env) given more f))
@@ -381,7 +417,7 @@ module _ (Q : List Text → StaticType → Type 0) where
         let given : Written = written.link (tree_link.Call name xs) in
         let more : Written = joined (map written.link behind) in
         let values : Fits env (core.joined (map made_of ys)) m =
-        expressions h (in_link (names_at env) (Link-F.Call name xs) (tree_link.rolls-Call name xs) (tree_left (names_at env) given more f)) in
+        expressions h (in_call (names_at env) name xs (tree_left (names_at env) given more f)) in
         two env (made_of_link (l.Call b ys name.at.from)) (core.joined (map made_of_link ks)) m n
         (made_link (names_at env) (CoreLink-F.Call b ys name.at.from) (l.rolls-Call b ys name.at.from) values.0, values.1)
         (links k (tree_right (names_at env) given more f))
@@ -577,43 +613,56 @@ module _ (Q : List Text → StaticType → Type 0) where
         (members k (tree_right (names_at env) here more f))
     members (AreMembers.condition {class} {env} {name} {xs} {fields} {ys} {conditions} {m} h) f =
         members h (tree_right (names_at env) (written.member (member.Condition name)) (joined (map written.member xs)) f)
-    members (AreMembers.operation {class} {env} is_exported name end_name parameters result {x} {xs} {fields} {y} {ys} {ts} {conditions} {m} {n} h k) f =
+    members (AreMembers.operation {class} {env} is_exported name end_name end_at parameters result {x} {failure} {xs} {fields} {y} {clause = told} {ys} {ts} {us} {conditions} {m} {k} {n} h c r) f =
         let layer : OperationLayer = record {
           is_exported = is_exported;
           name = name;
           parameters = parameters;
           result = result;
           block = x;
+          failure = failure;
           end_name = end_name;
+          end_at = end_at;
         } in
         let here : Written = written.member (member.Operation (roll-Operation layer)) in
         let more : Written = joined (map written.member xs) in
-        let body : Fits env (made_of_block y) m =
-        block h
-        (subst (TreeFits (names_at env)) (rolled.operation layer)
+        let behind : Written = if_there (option_map written.section failure) in
+        let both : TreeFits (names_at env) (written.block x ++ behind) =
+        in_operation (names_at env) layer
         (in_member (names_at env) (Member-F.Operation (roll-Operation layer)) (member.rolls-Operation (roll-Operation layer))
-        (tree_left (names_at env) here more f))) in
-        let rest : Fits env (core.joined (map made_of_statement ys)) n = members k (tree_right (names_at env) here more f) in
-        (rest.0, (body.0, both_fit (names_at env) m n body.1 rest.1))
+        (tree_left (names_at env) here more f)) in
+        let body : Fits env (made_of_block y) m = block h (tree_left (names_at env) (written.block x) behind both) in
+        let others : MadeFits (names_at env) k = clause c (tree_right (names_at env) (written.block x) behind both) in
+        let rest : Fits env (core.joined (map made_of_statement ys)) n = members r (tree_right (names_at env) here more f) in
+        (rest.0, (body.0, both_fit (names_at env) (both_made m k) n (both_fit (names_at env) m k body.1 others) rest.1))
 
-    initially : {env : Env} {x : Option Block} {ys : List CoreStatement} {ts : Types} {m : Made} → IsInitially env x ys ts m →
-        TreeFits (names_at env) (if_there (option_map written.block x)) → Fits env (core.joined (map made_of_statement ys)) m
+    clause : {env : Env} {x : Option Section} {y : Option CoreBlock} {ts : Types} {m : Made} → IsClause env x y ts m →
+        TreeFits (names_at env) (if_there (option_map written.section x)) → MadeFits (names_at env) m
+    clause IsClause.no_clause f = tt
+    clause (IsClause.clause {env} at end_at {x} {y} {ts} {m} h) f =
+        let k : Fits env (made_of_block y) m =
+        block h (in_section (names_at env) (record { block = x; at = at; end_at = end_at }) f) in
+        k.1
+
+    initially : {env : Env} {x : Option Section} {ys : List CoreStatement} {ts : Types} {m : Made} → IsInitially env x ys ts m →
+        TreeFits (names_at env) (if_there (option_map written.section x)) → Fits env (core.joined (map made_of_statement ys)) m
     initially IsInitially.no_initially f = (tt, tt)
-    initially (IsInitially.initially {env} {x} {ys} {ts} {m} h) f =
-        let k : Fits env (made_of_block (core_block (record { statements = ys }))) m = block h f in
+    initially (IsInitially.initially {env} at end_at {x} {ys} {ts} {m} h) f =
+        let k : Fits env (made_of_block (core_block (record { statements = ys }))) m =
+        block h (in_section (names_at env) (record { block = x; at = at; end_at = end_at }) f) in
         (within_block (names_at env) ys k.0, k.1)
 
     process : {class : ℕ} {env : Env} {name : Name} {x : Option Section} {m : Made} → IsProcess class env name x m →
-        TreeFits (names_at env) (if_there (option_map written.process x)) → MadeFits (names_at env) m
+        TreeFits (names_at env) (if_there (option_map written.section x)) → MadeFits (names_at env) m
     process IsProcess.no_process f = tt
-    process (IsProcess.process {class} {env} {name} at {x} {y} {ts} {m} h) f =
-        block h (subst (TreeFits (names_at env)) (rolled.process (record { block = x; at = at })) f)
+    process (IsProcess.process {class} {env} {name} at end_at {x} {y} {ts} {m} h) f =
+        block h (in_section (names_at env) (record { block = x; at = at; end_at = end_at }) f)
 
     pub holder : {scope : Scope} {h : Holder} {b : Body} {m : Made} → TiedHolder scope h b m →
         TreeFits scope.table.names (written.body b) → MadeFits scope.table.names m
-    holder (TiedHolder.holder {scope} {h} {members = ms} {first} {section} {types} {fields} {stores} {ys} {ts} {conditions} {m} {n} {k} is are begins runs) f =
+    holder (TiedHolder.holder {scope} {h} {members = ms} {first} {section} {end_at} {types} {fields} {stores} {ys} {ts} {conditions} {m} {n} {k} is are begins runs) f =
         let names : List Text = scope.table.names in
-        let parts : InBody names ms first section = in_body names ms first section f in
+        let parts : InBody names ms first section = in_body names ms first section end_at f in
         let of_members : Fits (ties.in_body scope h) (core.joined (map made_of_statement stores)) m = members are parts.members in
         let of_first : Fits (ties.in_body scope h) (core.joined (map made_of_statement ys)) n = initially begins parts.first in
         let own : Made = record {
