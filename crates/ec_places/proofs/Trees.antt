@@ -175,8 +175,8 @@ mutual
   member (IsMember.operation_member is e f ps r h g i) =
       of_member _ (m.rolls-Operation _)
       (of_operation _
-      (and_then (flag is) (passed (passed (and_then (params_option ps)
-      (and_then (result r) (and_then (of_block _ (block h)) (passed (passed arrived)))))))))
+      (and_then {ds = []} (flag is) (passed (passed (and_then {ds = []} (params_option ps)
+      (and_then {ds = []} (result r) (and_then (of_block _ (block h)) (passed (passed arrived)))))))))
 
   members : {ts us : List Token} {xs : List Member} → AreMembers ts us xs → Among ts us (within_members (map in_member xs)).types
   members AreMembers.members_end = arrived

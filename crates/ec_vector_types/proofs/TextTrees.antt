@@ -175,8 +175,8 @@ mutual
   member (IsMember.operation_member is e f ps r h g i) =
       of_member _ (m.rolls-Operation _)
       (of_operation _
-      (and_then (skipped (flag is)) (passed (passed (and_then (skipped (params_option ps))
-      (and_then (skipped (result r)) (and_then (of_block _ (block h)) (passed (passed arrived)))))))))
+      (and_then {ns = []} (skipped (flag is)) (passed (passed (and_then {ns = []} (skipped (params_option ps))
+      (and_then {ns = []} (skipped (result r)) (and_then (of_block _ (block h)) (passed (passed arrived)))))))))
 
   members : {ts us : List Token} {xs : List Member} → AreMembers ts us xs → Taken ts us (joined (map written.member xs))
   members AreMembers.members_end = arrived
