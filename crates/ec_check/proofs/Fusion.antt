@@ -87,8 +87,8 @@ IsSameObject x = object_judged (object_of x) ≡ judged_tree.object_of x
 abbrev IsSameOperation : Operation → Type 0
 IsSameOperation x = operation_judged (operation_of x) ≡ judged_tree.operation_of x
 
-abbrev IsSameProcess : Section → Type 0
-IsSameProcess x = section_judged (section_of x) ≡ judged_tree.section_of x
+abbrev IsSameSection : Section → Type 0
+IsSameSection x = section_judged (section_of x) ≡ judged_tree.section_of x
 
 abbrev same : Claims
 same = record {
@@ -104,7 +104,7 @@ same = record {
   factor = IsSameFactor;
   object = IsSameObject;
   operation = IsSameOperation;
-  section = IsSameProcess;
+  section = IsSameSection;
 }
 
 -- ---- lists, and functions of several
@@ -305,8 +305,8 @@ process_same : (y : SectionWith same) →
     ≡ section_part (layers.section_mapped judged_tree.parts (bare_section same y))
 process_same y = ap (process_with y.at) y.block.1
 
-process_at : (y : SectionWith same) → IsSameProcess (roll-Section (bare_section same y))
-process_at y =
+section_at : (y : SectionWith same) → IsSameSection (roll-Section (bare_section same y))
+section_at y =
     ap section_judged (section_rolled (bare_section same y))
     ∙ (process_same y ∙ sym (ruled.section (bare_section same y)))
 
@@ -320,10 +320,10 @@ operation_with name parameters result end_name block failure = record {
   end_name = end_name;
 }
 
-abbrev with_failure : OperationWith same → Option (Held IsSameProcess) → OperationWith same
+abbrev with_failure : OperationWith same → Option (Held IsSameSection) → OperationWith same
 with_failure y failure = record y { failure = failure }
 
-clauses_same : (y : OperationWith same) (failure : Option (Held IsSameProcess)) →
+clauses_same : (y : OperationWith same) (failure : Option (Held IsSameSection)) →
     operation_judged (operation_step (operation_mapped (bare_operation same (with_failure y failure))))
     ≡ operation_part (layers.operation_mapped judged_tree.parts (bare_operation same (with_failure y failure)))
 clauses_same y None = ap (λ b. operation_with y.name y.parameters y.result y.end_name b None) y.block.1
@@ -367,10 +367,10 @@ object_at y =
 abbrev body_with : List judged.MemberPart → Option judged.Piece → Option judged.SectionPart → judged.BodyPart
 body_with members initially process = record { members = members; initially = initially; process = process }
 
-abbrev body_layer : List (Held IsSameMember) → Option (Held IsSameProcess) → Option (Held IsSameProcess) → Span → BodyWith same
+abbrev body_layer : List (Held IsSameMember) → Option (Held IsSameSection) → Option (Held IsSameSection) → Span → BodyWith same
 body_layer ms i p at = record { members = ms; initially = i; process = p; end_at = at }
 
-body_parts_same : (ms : List (Held IsSameMember)) (i p : Option (Held IsSameProcess)) (at : Span) →
+body_parts_same : (ms : List (Held IsSameMember)) (i p : Option (Held IsSameSection)) (at : Span) →
     body_judged (body_step (body_mapped (bare_body same (body_layer ms i p at))))
     ≡ body_part (layers.body_mapped judged_tree.parts (bare_body same (body_layer ms i p at)))
 body_parts_same ms None None at = ap (λ m. body_with m None None) (each_same member_of member_judged judged_tree.member_of ms)
@@ -405,7 +405,7 @@ passes = record {
   factor = factor_at;
   object = object_at;
   operation = operation_at;
-  section = process_at;
+  section = section_at;
 }
 
 pub same_part : (x : Expression) → (part_of x).part ≡ judged_tree.part_of x

@@ -16,7 +16,7 @@ use Rattle.ec_check.proofs.DeclaringParts.{DeclaringPart, DeclaringLink, Declari
 use Rattle.ec_check.proofs.DeclaringParts.{DeclaringPiece, DeclaringBody, DeclaringFactor, DeclaringObject, DeclaringOperation}
 use Rattle.ec_check.proofs.DeclaringParts.{DeclaringSection}
 use Rattle.ec_check.proofs.SoundParts.{SoundPart, SoundLink, SoundMember, SoundStatement, SoundAddend, SoundArm, SoundPiece, SoundBody}
-use Rattle.ec_check.proofs.SoundParts.{SoundFactor, SoundConstructor, SoundOperation, SoundProcess}
+use Rattle.ec_check.proofs.SoundParts.{SoundFactor, SoundConstructor, SoundOperation, SoundSection}
 use Rattle.ec_check.specs.Tree.{part_of, link_of, member_of, statement_of, addend_of, arm_of, block_of, body_of, factor_of}
 use Rattle.ec_check.specs.Tree.{object_of, operation_of, section_of}
 use Rattle.ec_check.specs.Tree.{argument_of}
@@ -63,8 +63,8 @@ IsGoodObject x = SoundConstructor (object_of x) × DeclaringObject (object_of x)
 abbrev pub IsGoodOperation : Operation → Type 0
 IsGoodOperation x = SoundOperation (operation_of x) × DeclaringOperation (operation_of x) (in_operation x)
 
-abbrev pub IsGoodProcess : Section → Type 0
-IsGoodProcess x = SoundProcess (section_of x) × DeclaringSection (section_of x) (in_section x)
+abbrev pub IsGoodSection : Section → Type 0
+IsGoodSection x = SoundSection (section_of x) × DeclaringSection (section_of x) (in_section x)
 
 -- what is claimed of a part of each kind
 abbrev pub good : Claims
@@ -81,5 +81,5 @@ good = record {
   factor = IsGoodFactor;
   object = IsGoodObject;
   operation = IsGoodOperation;
-  section = IsGoodProcess;
+  section = IsGoodSection;
 }

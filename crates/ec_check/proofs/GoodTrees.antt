@@ -32,7 +32,7 @@ use Rattle.ec_check.proofs.Rolled.{section_mapped, link_rolled, member_rolled, a
 use Rattle.ec_check.proofs.Rolled.{operation_rolled, section_rolled}
 use Rattle.ec_check.proofs.Rolled.{argument_rolled}
 use Rattle.ec_check.proofs.SoundParts.{SoundLink, SoundMember, SoundAddend, SoundBody, SoundFactor, SoundConstructor}
-use Rattle.ec_check.proofs.SoundParts.{SoundOperation, SoundProcess}
+use Rattle.ec_check.proofs.SoundParts.{SoundOperation, SoundSection}
 use Rattle.ec_check.proofs.SoundParts.{SoundPart}
 use Rattle.ec_check.specs.Tree.{link_step, member_step, addend_step, body_step, factor_step, object_step, operation_step, section_step}
 use Rattle.ec_check.specs.Tree.{part_of, member_of}
@@ -47,7 +47,7 @@ use Rattle.ec_check.specs.Parts.{values_of}
 use Rattle.ec_types.specs.declared.scopes.scope.Scope.{Scope}
 use Rattle.ec_types.specs.Scopes.{in_a_process}
 use Rattle.ec_check.proofs.GoodParts.{IsGoodPart, IsGoodLink, IsGoodMember, IsGoodStatement, IsGoodAddend, IsGoodBlock}
-use Rattle.ec_check.proofs.GoodParts.{IsGoodBody, IsGoodFactor, IsGoodObject, IsGoodOperation, IsGoodProcess, good}
+use Rattle.ec_check.proofs.GoodParts.{IsGoodBody, IsGoodFactor, IsGoodObject, IsGoodOperation, IsGoodSection, good}
 use Rattle.ec_check.proofs.GoodParts.{IsGoodArgument}
 use Rattle.ec_ast.proofs.Claims.{Passes, Held, trees, LinkWith, MemberWith, AddendWith, BodyWith, FactorWith, ObjectWith}
 use Rattle.ec_ast.proofs.Claims.{OperationWith, SectionWith, bare_link, bare_member, bare_addend, bare_body, bare_factor}
@@ -150,15 +150,15 @@ addend_at y = (
 
 -- ---- operations and process sections
 
-abbrev with_failure : OperationWith good → Option (Held IsGoodProcess) → OperationWith good
+abbrev with_failure : OperationWith good → Option (Held IsGoodSection) → OperationWith good
 with_failure y failure = record y { failure = failure }
 
-operation_is_sound : (y : OperationWith good) (failure : Option (Held IsGoodProcess)) →
+operation_is_sound : (y : OperationWith good) (failure : Option (Held IsGoodSection)) →
     SoundOperation (operation_step (operation_mapped (bare_operation good (with_failure y failure))))
 operation_is_sound y None = (y.block.1.0, tt)
 operation_is_sound y (Some c) = (y.block.1.0, c.1.0)
 
-clauses_are_declaring : (y : OperationWith good) (failure : Option (Held IsGoodProcess)) →
+clauses_are_declaring : (y : OperationWith good) (failure : Option (Held IsGoodSection)) →
     DeclaringOperation (operation_step (operation_mapped (bare_operation good (with_failure y failure))))
     (conform.operation_step (operation_declared (bare_operation good (with_failure y failure))))
 clauses_are_declaring y None = λ scope is_monitored e.
@@ -186,29 +186,29 @@ operation_at y = (
       (sym (operation_declares (bare_operation good y))) (operation_is_declaring y)),
 )
 
-process_is_declaring : (y : SectionWith good) →
+section_is_declaring : (y : SectionWith good) →
     DeclaringSection (section_step (section_mapped (bare_section good y)))
     (conform.section_step (section_declared (bare_section good y)))
-process_is_declaring y = y.block.1.1
+section_is_declaring y = y.block.1.1
 
-process_at : (y : SectionWith good) → IsGoodProcess (roll-Section (bare_section good y))
-process_at y = (
-  subst SoundProcess (sym (section_rolled (bare_section good y))) y.block.1.0,
+section_at : (y : SectionWith good) → IsGoodSection (roll-Section (bare_section good y))
+section_at y = (
+  subst SoundSection (sym (section_rolled (bare_section good y))) y.block.1.0,
   subst (λ x. DeclaringSection x (in_section (roll-Section (bare_section good y))))
       (sym (section_rolled (bare_section good y)))
       (subst (DeclaringSection (section_step (section_mapped (bare_section good y)))) (sym (section_declares (bare_section good y)))
-      (process_is_declaring y)),
+      (section_is_declaring y)),
 )
 
 -- ---- bodies
 
-abbrev body_layer : List (Held IsGoodMember) → Option (Held IsGoodProcess) → Option (Held IsGoodProcess) → Span → BodyWith good
+abbrev body_layer : List (Held IsGoodMember) → Option (Held IsGoodSection) → Option (Held IsGoodSection) → Span → BodyWith good
 body_layer ms i p at = record { members = ms; initially = i; process = p; end_at = at }
 
 sound_members : (ms : List (Held IsGoodMember)) → Every SoundMember (map member_of (trees ms))
 sound_members = each_good member_of IsGoodMember SoundMember (λ x q. q.0)
 
-body_is_sound : (ms : List (Held IsGoodMember)) (i p : Option (Held IsGoodProcess)) (at : Span) →
+body_is_sound : (ms : List (Held IsGoodMember)) (i p : Option (Held IsGoodSection)) (at : Span) →
     SoundBody (body_step (body_mapped (bare_body good (body_layer ms i p at))))
 body_is_sound ms None None at = record { members = sound_members ms; initially = tt; process = tt }
 body_is_sound ms None (Some p) at = record { members = sound_members ms; initially = tt; process = p.1.0 }
@@ -234,7 +234,7 @@ body_types scope is_monitored ms i p e h k =
           (within_members_sound scope.table (map in_member (trees ms)) members) (both_sound scope.table i p h k);
     }
 
-body_is_declaring : (ms : List (Held IsGoodMember)) (i p : Option (Held IsGoodProcess)) (at : Span) →
+body_is_declaring : (ms : List (Held IsGoodMember)) (i p : Option (Held IsGoodSection)) (at : Span) →
     DeclaringBody (body_step (body_mapped (bare_body good (body_layer ms i p at))))
     (conform.body_step (body_declared (bare_body good (body_layer ms i p at))))
 body_is_declaring ms None None at = λ scope is_monitored e f g. body_types scope is_monitored ms nothing nothing e tt tt
@@ -287,7 +287,7 @@ passes = record {
   factor = factor_at;
   object = object_at;
   operation = operation_at;
-  section = process_at;
+  section = section_at;
 }
 
 pub good_part : (x : Expression) → IsGoodPart x

@@ -13,7 +13,7 @@ use Rattle.ec_ast.specs.declared.Operation.{Operation}
 use Rattle.ec_ast.specs.declared.Section.{Section}
 use Rattle.ec_places.proofs.DeclaredRolled.{in_operation}
 use Rattle.ec_check.proofs.NumberedKinds.{NumberedPart, NumberedLink, NumberedMember, NumberedStatement, NumberedAddend, NumberedArm}
-use Rattle.ec_check.proofs.NumberedKinds.{NumberedPiece, NumberedBody, NumberedFactor, NumberedObject, NumberedOperation, NumberedProcess}
+use Rattle.ec_check.proofs.NumberedKinds.{NumberedPiece, NumberedBody, NumberedFactor, NumberedObject, NumberedOperation, NumberedSection}
 use Rattle.ec_check.specs.Tree.{part_of, link_of, member_of, statement_of, addend_of, arm_of, block_of, body_of, factor_of}
 use Rattle.ec_check.specs.Tree.{object_of, operation_of, section_of}
 use Rattle.ec_check.specs.Tree.{argument_of}
@@ -60,8 +60,8 @@ IsNumberedObject x = NumberedObject (object_of x) (in_constructor x)
 abbrev pub IsNumberedOperation : Operation → Type 0
 IsNumberedOperation x = NumberedOperation (operation_of x) (in_operation x)
 
-abbrev pub IsNumberedProcess : Section → Type 0
-IsNumberedProcess x = NumberedProcess (section_of x) (in_section x)
+abbrev pub IsNumberedSection : Section → Type 0
+IsNumberedSection x = NumberedSection (section_of x) (in_section x)
 
 -- what is claimed of a part of each kind
 abbrev pub numbered : Claims
@@ -78,5 +78,5 @@ numbered = record {
   factor = IsNumberedFactor;
   object = IsNumberedObject;
   operation = IsNumberedOperation;
-  section = IsNumberedProcess;
+  section = IsNumberedSection;
 }

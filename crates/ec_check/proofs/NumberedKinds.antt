@@ -62,8 +62,8 @@ NumberedArm a d = (scope : Scope) →
     Numbered scope.table (both_made (a.condition.made scope) (a.block.made scope)) d.types
     (piece_of_arm (arm_judged a) scope).faults
 
-abbrev pub NumberedProcess : SectionPart → conform.SectionPart → Type 0
-NumberedProcess p d = NumberedPiece p.block d.within
+abbrev pub NumberedSection : SectionPart → conform.SectionPart → Type 0
+NumberedSection p d = NumberedPiece p.block d.within
 
 pub record NumberedMember (m : MemberPart) (d : conform.MemberPart) : Type 0 where
   pub declares : Declares m d

@@ -30,7 +30,7 @@ use Rattle.ec_check.proofs.GoodExpressions.{each_pair}
 use Rattle.ec_check.proofs.GoodTrees.{good_part}
 use Rattle.ec_check.proofs.NumberedHolders.{holder_numbered}
 use Rattle.ec_check.proofs.NumberedKinds.{NumberedPart, NumberedLink, NumberedMember, NumberedStatement, NumberedAddend, NumberedArm}
-use Rattle.ec_check.proofs.NumberedKinds.{NumberedPiece, NumberedBody, NumberedFactor, NumberedObject, NumberedOperation, NumberedProcess}
+use Rattle.ec_check.proofs.NumberedKinds.{NumberedPiece, NumberedBody, NumberedFactor, NumberedObject, NumberedOperation, NumberedSection}
 use Rattle.ec_check.proofs.NumberedKinds.{parts_numbered, factors_numbered, addends_numbered, postfix_numbered}
 use Rattle.ec_check.proofs.NumberedParts.{Numbered, nothing_numbered, numbered_within, one_numbered, both_numbered, none_both}
 use Rattle.ec_check.proofs.NumberedParts.{within_class, in_within, both_in, named_in, nameless_in}
@@ -64,7 +64,7 @@ use Rattle.ec_types.specs.declared.scopes.scope.Scope.{Scope}
 use Rattle.ec_types.specs.Scopes.{declaring, in_a_loop, in_a_process}
 use Rattle.ec_check.proofs.NumberedHeld.{IsNumberedPart, IsNumberedLink, IsNumberedMember, IsNumberedStatement, IsNumberedAddend}
 use Rattle.ec_check.proofs.NumberedHeld.{IsNumberedArm, IsNumberedBlock, IsNumberedBody, IsNumberedFactor, IsNumberedObject}
-use Rattle.ec_check.proofs.NumberedHeld.{IsNumberedOperation, IsNumberedProcess, numbered}
+use Rattle.ec_check.proofs.NumberedHeld.{IsNumberedOperation, IsNumberedSection, numbered}
 use Rattle.ec_check.proofs.NumberedHeld.{IsNumberedArgument}
 use Rattle.ec_ast.proofs.Claims.{Passes, Held, trees, ExpressionWith, LinkWith, MemberWith, StatementWith, AddendWith, ArmWith}
 use Rattle.ec_ast.proofs.Claims.{BlockWith, BodyWith, FactorWith, ObjectWith, OperationWith, SectionWith, bare_expression}
@@ -359,13 +359,13 @@ member_at y =
     (subst (NumberedMember (member_step (member_mapped (bare_member numbered y)))) (sym (member_declares (bare_member numbered y)))
     (member_is y))
 
-abbrev with_failure : OperationWith numbered → Option (Held IsNumberedProcess) → OperationWith numbered
+abbrev with_failure : OperationWith numbered → Option (Held IsNumberedSection) → OperationWith numbered
 with_failure y failure = record y { failure = failure }
 
-abbrev operation_part : OperationWith numbered → Option (Held IsNumberedProcess) → OperationPart
+abbrev operation_part : OperationWith numbered → Option (Held IsNumberedSection) → OperationPart
 operation_part y failure = operation_step (operation_mapped (bare_operation numbered (with_failure y failure)))
 
-clauses_are : (y : OperationWith numbered) (failure : Option (Held IsNumberedProcess)) →
+clauses_are : (y : OperationWith numbered) (failure : Option (Held IsNumberedSection)) →
     NumberedOperation (operation_part y failure) (conform.operation_step (operation_declared (bare_operation numbered (with_failure y failure))))
 clauses_are y None = record {
   declares = record { name = refl; operations = refl };
@@ -400,19 +400,19 @@ operation_at y =
 
 -- ---- bodies
 
-process_is : (y : SectionWith numbered) →
-    NumberedProcess (section_step (section_mapped (bare_section numbered y)))
+section_is : (y : SectionWith numbered) →
+    NumberedSection (section_step (section_mapped (bare_section numbered y)))
     (conform.section_step (section_declared (bare_section numbered y)))
-process_is y = y.block.1
+section_is y = y.block.1
 
-process_at : (y : SectionWith numbered) → IsNumberedProcess (roll-Section (bare_section numbered y))
-process_at y =
-    subst (λ x. NumberedProcess x (in_section (roll-Section (bare_section numbered y))))
+section_at : (y : SectionWith numbered) → IsNumberedSection (roll-Section (bare_section numbered y))
+section_at y =
+    subst (λ x. NumberedSection x (in_section (roll-Section (bare_section numbered y))))
     (sym (section_rolled (bare_section numbered y)))
-    (subst (NumberedProcess (section_step (section_mapped (bare_section numbered y)))) (sym (section_declares (bare_section numbered y)))
-    (process_is y))
+    (subst (NumberedSection (section_step (section_mapped (bare_section numbered y)))) (sym (section_declares (bare_section numbered y)))
+    (section_is y))
 
-abbrev body_layer : List (Held IsNumberedMember) → Option (Held IsNumberedProcess) → Option (Held IsNumberedProcess) → Span →
+abbrev body_layer : List (Held IsNumberedMember) → Option (Held IsNumberedSection) → Option (Held IsNumberedSection) → Span →
     BodyWith numbered
 body_layer ms i p at = record { members = ms; initially = i; process = p; end_at = at }
 
@@ -420,7 +420,7 @@ member_pairs : (ms : List (Held IsNumberedMember)) →
     EveryPair NumberedMember (map member_of (trees ms)) (map in_member (trees ms))
 member_pairs = each_pair member_of in_member IsNumberedMember NumberedMember (λ x q. q)
 
-body_is : (ms : List (Held IsNumberedMember)) (i p : Option (Held IsNumberedProcess)) (at : Span) →
+body_is : (ms : List (Held IsNumberedMember)) (i p : Option (Held IsNumberedSection)) (at : Span) →
     NumberedBody (body_step (body_mapped (bare_body numbered (body_layer ms i p at))))
     (conform.body_step (body_declared (bare_body numbered (body_layer ms i p at))))
 body_is ms None None at = record {
@@ -498,7 +498,7 @@ passes = record {
   factor = factor_at;
   object = object_at;
   operation = operation_at;
-  section = process_at;
+  section = section_at;
 }
 
 pub numbered_part : (x : Expression) → IsNumberedPart x

@@ -14,7 +14,7 @@ use Rattle.ec_ast.specs.declared.Operation.{Operation}
 use Rattle.ec_ast.specs.declared.Section.{Section}
 use Rattle.ec_check.proofs.RangedParts.{RangedPart, RangedLink, RangedMember, RangedStatement, RangedAddend, RangedArm, RangedPiece}
 use Rattle.ec_check.proofs.RangedParts.{RangedBody}
-use Rattle.ec_check.proofs.RangedParts.{RangedFactor, RangedConstructor, RangedOperation, RangedProcess}
+use Rattle.ec_check.proofs.RangedParts.{RangedFactor, RangedConstructor, RangedOperation, RangedSection}
 use Rattle.ec_check.specs.Tree.{part_of, link_of, member_of, statement_of, addend_of, argument_of, arm_of, block_of, body_of, factor_of}
 use Rattle.ec_check.specs.Tree.{object_of, operation_of, section_of}
 use Rattle.ec_ast.proofs.Claims.{Claims}
@@ -57,8 +57,8 @@ IsRangedObject x = RangedConstructor (object_of x)
 abbrev pub IsRangedOperation : Operation → Type 0
 IsRangedOperation x = RangedOperation (operation_of x)
 
-abbrev pub IsRangedProcess : Section → Type 0
-IsRangedProcess x = RangedProcess (section_of x)
+abbrev pub IsRangedSection : Section → Type 0
+IsRangedSection x = RangedSection (section_of x)
 
 -- what is claimed of a part of each kind
 abbrev pub ranged : Claims
@@ -75,5 +75,5 @@ ranged = record {
   factor = IsRangedFactor;
   object = IsRangedObject;
   operation = IsRangedOperation;
-  section = IsRangedProcess;
+  section = IsRangedSection;
 }

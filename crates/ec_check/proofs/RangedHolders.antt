@@ -10,7 +10,7 @@ use Rattle.ec_check.proofs.Every.{Every, Where, every_joined, every_left, every_
 use Rattle.ec_check.proofs.FittingScopes.{BodyFits, fits_at_start, fits_in_a_process, fits_in_operation, body_fits}
 use Rattle.ec_check.proofs.FoundPlaces.{Fits, GlobalsAre, first_below, number_below}
 use Rattle.ec_check.proofs.NumbersRolled.{statement_has, block_rolled}
-use Rattle.ec_check.proofs.RangedParts.{Ready, Ranged, RangedPiece, RangedMember, RangedHolder, RangedProcess, ClassesWithin}
+use Rattle.ec_check.proofs.RangedParts.{Ready, Ranged, RangedPiece, RangedMember, RangedHolder, RangedSection, ClassesWithin}
 use Rattle.ec_check.proofs.RangedParts.{first_ready, second_ready, ready_within, each_joined, any_of}
 use Rattle.ec_check.proofs.RangedParts.{RangedOperation}
 use Rattle.ec_check.specs.Numbers.{Kept, Whole, Limits, InRange, IsOperation, limits_of, joined, in_expression, in_statement, in_block}
@@ -76,7 +76,7 @@ initially_used : (scope : Scope) (b : Option Piece) → Where RangedPiece b →
 initially_used scope None h = tt
 initially_used scope (Some b) h = h.uses scope
 
-process_used : (scope : Scope) (p : Option SectionPart) → Where RangedProcess p →
+process_used : (scope : Scope) (p : Option SectionPart) → Where RangedSection p →
     UsesHeld scope (process_finished scope (option_map section_judged p)).uses
 process_used scope None h = tt
 process_used scope (Some p) h =
@@ -256,7 +256,7 @@ initially_ranged limits env (Some b) h r l =
     }
 
 process_ranged : (whole : Whole) (c : Class) (env : Env) (name : Name) (p : Option SectionPart) → Contains whole.classes c →
-    BodyFits whole c env → Where RangedProcess p →
+    BodyFits whole c env → Where RangedSection p →
     (env.captures ≡ [] → uses_outside (process_finished env.scope (option_map section_judged p)).uses ≡ []) →
     (process_finished env.scope (option_map section_judged p)).faults ≡ [] →
     ClassesWithin whole (process_made c.number env name p).classes →

@@ -107,8 +107,8 @@ RangedAddend a = RangedPart a.value
 abbrev pub RangedArm : ArmPart → Type 0
 RangedArm a = RangedPart a.condition × RangedPiece a.block
 
-abbrev pub RangedProcess : SectionPart → Type 0
-RangedProcess p = RangedPiece p.block
+abbrev pub RangedSection : SectionPart → Type 0
+RangedSection p = RangedPiece p.block
 
 abbrev pub RangedOperation : OperationPart → Type 0
 RangedOperation o = RangedPiece o.block × Where RangedPiece o.failure
@@ -122,7 +122,7 @@ RangedMember (operation o) = RangedOperation o
 pub record RangedBody (b : BodyPart) : Type 0 where
   pub members : Every RangedMember b.members
   pub initially : Where RangedPiece b.initially
-  pub process : Where RangedProcess b.process
+  pub process : Where RangedSection b.process
 
 abbrev pub RangedHolder : Holder → Type 0
 RangedHolder h = RangedBody h.body

@@ -19,7 +19,7 @@ use Rattle.ec_check.proofs.Every.{each_within}
 use Rattle.ec_check.proofs.RangedExpressions.{expression_ranged, RangedParts}
 use Rattle.ec_check.proofs.RangedParts.{RangedPart, RangedLink, RangedMember, RangedStatement, RangedAddend, RangedArm, RangedPiece}
 use Rattle.ec_check.proofs.RangedParts.{RangedBody}
-use Rattle.ec_check.proofs.RangedParts.{RangedFactor, RangedConstructor, RangedOperation, RangedProcess}
+use Rattle.ec_check.proofs.RangedParts.{RangedFactor, RangedConstructor, RangedOperation, RangedSection}
 use Rattle.ec_check.proofs.RangedStatements.{statement_ranged, block_ranged}
 use Rattle.ec_check.proofs.RangedStatements as statements
 use Rattle.ec_check.proofs.Rolled.{expression_mapped, link_mapped, member_mapped, statement_mapped, body_mapped}
@@ -31,7 +31,7 @@ use Rattle.ec_check.specs.Tree.{link_step, member_step, body_step}
 use Rattle.ec_check.specs.Tree.{part_of, link_of, member_of, statement_of, addend_of, arm_of, factor_of}
 use Rattle.ec_check.specs.Tree.{operation_step, argument_of}
 use Rattle.ec_check.proofs.RangedHeld.{IsRangedPart, IsRangedLink, IsRangedMember, IsRangedStatement, IsRangedAddend, IsRangedArm}
-use Rattle.ec_check.proofs.RangedHeld.{IsRangedBlock, IsRangedBody, IsRangedFactor, IsRangedObject, IsRangedOperation, IsRangedProcess}
+use Rattle.ec_check.proofs.RangedHeld.{IsRangedBlock, IsRangedBody, IsRangedFactor, IsRangedObject, IsRangedOperation, IsRangedSection}
 use Rattle.ec_check.proofs.RangedHeld.{ranged}
 use Rattle.ec_check.proofs.RangedHeld.{IsRangedArgument}
 use Rattle.ec_ast.proofs.Claims.{Passes, Held, ExpressionWith, LinkWith, MemberWith, StatementWith, AddendWith, ArmWith}
@@ -145,10 +145,10 @@ member_is (Member-F.Operation o) = o.1
 member_at : (y : MemberWith ranged) → IsRangedMember (roll-Member (bare_member ranged y))
 member_at y = subst RangedMember (sym (member_rolled (bare_member ranged y))) (member_is y)
 
-abbrev with_failure : OperationWith ranged → Option (Held IsRangedProcess) → OperationWith ranged
+abbrev with_failure : OperationWith ranged → Option (Held IsRangedSection) → OperationWith ranged
 with_failure y failure = record y { failure = failure }
 
-operation_is : (y : OperationWith ranged) (failure : Option (Held IsRangedProcess)) →
+operation_is : (y : OperationWith ranged) (failure : Option (Held IsRangedSection)) →
     RangedOperation (operation_step (operation_mapped (bare_operation ranged (with_failure y failure))))
 operation_is y None = (y.block.1, tt)
 operation_is y (Some c) = (y.block.1, c.1)
@@ -156,13 +156,13 @@ operation_is y (Some c) = (y.block.1, c.1)
 operation_at : (y : OperationWith ranged) → IsRangedOperation (roll-Operation (bare_operation ranged y))
 operation_at y = subst RangedOperation (sym (operation_rolled (bare_operation ranged y))) (operation_is y y.failure)
 
-process_at : (y : SectionWith ranged) → IsRangedProcess (roll-Section (bare_section ranged y))
-process_at y = subst RangedProcess (sym (section_rolled (bare_section ranged y))) y.block.1
+section_at : (y : SectionWith ranged) → IsRangedSection (roll-Section (bare_section ranged y))
+section_at y = subst RangedSection (sym (section_rolled (bare_section ranged y))) y.block.1
 
-abbrev body_layer : List (Held IsRangedMember) → Option (Held IsRangedProcess) → Option (Held IsRangedProcess) → Span → BodyWith ranged
+abbrev body_layer : List (Held IsRangedMember) → Option (Held IsRangedSection) → Option (Held IsRangedSection) → Span → BodyWith ranged
 body_layer ms i p at = record { members = ms; initially = i; process = p; end_at = at }
 
-body_is : (ms : List (Held IsRangedMember)) (i p : Option (Held IsRangedProcess)) (at : Span) →
+body_is : (ms : List (Held IsRangedMember)) (i p : Option (Held IsRangedSection)) (at : Span) →
     RangedBody (body_step (body_mapped (bare_body ranged (body_layer ms i p at))))
 body_is ms None None at = record { members = each_held member_of RangedMember ms; initially = tt; process = tt }
 body_is ms None (Some p) at = record { members = each_held member_of RangedMember ms; initially = tt; process = p.1 }
@@ -191,7 +191,7 @@ passes = record {
   factor = factor_at;
   object = object_at;
   operation = operation_at;
-  section = process_at;
+  section = section_at;
 }
 
 pub ranged_part : (x : Expression) → IsRangedPart x

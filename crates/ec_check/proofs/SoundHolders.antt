@@ -4,7 +4,7 @@ use Rattle.ec_ast.specs.declared.Parameter.{Parameter}
 use Rattle.ec_check.proofs.Every.{Every, Where, every_joined, every_each, every_weaker, none_left, none_right, either}
 use Rattle.ec_check.proofs.KnownTypes.{HasType, KnownIfThere, written_has_type, type_is_known}
 use Rattle.ec_check.proofs.SoundForms.{same_class_in_body, same_constant, constant_has_type}
-use Rattle.ec_check.proofs.SoundParts.{SoundPiece, SoundMember, SoundProcess, SoundHolder, part_types}
+use Rattle.ec_check.proofs.SoundParts.{SoundPiece, SoundMember, SoundSection, SoundHolder, part_types}
 use Rattle.ec_check.proofs.SoundScopes.{SoundScope, SoundObject, SoundOperations, KnownResult, TypedEntry, sound_within}
 use Rattle.ec_check.proofs.SoundScopes.{sound_declaring, sound_in_a_process}
 use Rattle.ec_check.specs.Parts.{Piece, SectionPart, MemberPart, variable, constant, condition, operation, Holder}
@@ -172,7 +172,7 @@ block_types : (scope : Scope) (b : Option Piece) → SoundScope scope → Where 
 block_types scope None s h e = tt
 block_types scope (Some b) s h e = h scope s e
 
-process_types : (scope : Scope) (p : Option SectionPart) → SoundScope scope → Where SoundProcess p →
+process_types : (scope : Scope) (p : Option SectionPart) → SoundScope scope → Where SoundSection p →
     (process_finished scope (option_map section_judged p)).faults ≡ [] → Every HasType (process_within scope p)
 process_types scope None s h e = tt
 process_types scope (Some p) s h e = h (in_a_process scope) (sound_in_a_process scope s) (none_left _ _ e)

@@ -48,8 +48,8 @@ SoundAddend a = SoundPart a.value
 abbrev pub SoundArm : ArmPart → Type 0
 SoundArm a = SoundPart a.condition × SoundPiece a.block
 
-abbrev pub SoundProcess : SectionPart → Type 0
-SoundProcess p = SoundPiece p.block
+abbrev pub SoundSection : SectionPart → Type 0
+SoundSection p = SoundPiece p.block
 
 abbrev pub SoundOperation : OperationPart → Type 0
 SoundOperation o = SoundPiece o.block × Where SoundPiece o.failure
@@ -63,7 +63,7 @@ SoundMember (operation o) = SoundOperation o
 pub record SoundBody (b : BodyPart) : Type 0 where
   pub members : Every SoundMember b.members
   pub initially : Where SoundPiece b.initially
-  pub process : Where SoundProcess b.process
+  pub process : Where SoundSection b.process
 
 abbrev pub SoundHolder : Holder → Type 0
 SoundHolder h = SoundBody h.body

@@ -13,7 +13,7 @@ use Rattle.ec_ast.specs.declared.ObjectConstructor.{ObjectConstructor}
 use Rattle.ec_ast.specs.declared.Operation.{Operation}
 use Rattle.ec_ast.specs.declared.Section.{Section}
 use Rattle.ec_check.proofs.WellParts.{WellPart, WellLink, WellMember, WellStatement, WellAddend, WellArm, WellPiece, WellBody}
-use Rattle.ec_check.proofs.WellParts.{WellFactor, WellConstructor, WellOperation, WellProcess}
+use Rattle.ec_check.proofs.WellParts.{WellFactor, WellConstructor, WellOperation, WellSection}
 use Rattle.ec_check.specs.Tree.{part_of, link_of, member_of, statement_of, addend_of, argument_of, arm_of, block_of, body_of, factor_of}
 use Rattle.ec_check.specs.Tree.{object_of, operation_of, section_of}
 use Rattle.ec_ast.proofs.Claims.{Claims}
@@ -56,8 +56,8 @@ IsWellObject x = WellConstructor (object_of x)
 abbrev pub IsWellOperation : Operation → Type 0
 IsWellOperation x = WellOperation (operation_of x)
 
-abbrev pub IsWellProcess : Section → Type 0
-IsWellProcess x = WellProcess (section_of x)
+abbrev pub IsWellSection : Section → Type 0
+IsWellSection x = WellSection (section_of x)
 
 -- what is claimed of a part of each kind
 abbrev pub well : Claims
@@ -74,5 +74,5 @@ well = record {
   factor = IsWellFactor;
   object = IsWellObject;
   operation = IsWellOperation;
-  section = IsWellProcess;
+  section = IsWellSection;
 }

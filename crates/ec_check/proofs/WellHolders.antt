@@ -12,7 +12,7 @@ use Rattle.ec_check.proofs.StoredFields.{FieldIs, fields_are, members_stored, al
 use Rattle.ec_check.proofs.SuitingBodies.{BodySuits, body_suits, suits_at_start, suits_in_a_process, suits_in_operation, from_first}
 use Rattle.ec_check.proofs.SuitingBodies.{from_last, from_all}
 use Rattle.ec_check.proofs.TypedRolled.{block_rolled}
-use Rattle.ec_check.proofs.WellParts.{Ready, WellMember, WellPiece, WellProcess, WellHolder, GlobalsSuit, AreWell, AreFrom}
+use Rattle.ec_check.proofs.WellParts.{Ready, WellMember, WellPiece, WellSection, WellHolder, GlobalsSuit, AreWell, AreFrom}
 use Rattle.ec_check.proofs.WellParts.{WellOperation}
 use Rattle.ec_check.proofs.WellReady.{first_reach, second_reach, first_ready, second_ready, ready_within}
 use Rattle.ec_check.specs.Parts.{Piece, SectionPart, OperationPart, MemberPart, variable, constant, condition, operation, Holder, Made}
@@ -141,7 +141,7 @@ module _ (table : Table) (core : Core) (c : Class) (there : Contains core.classe
       (sym (statements_of (site_in table core c made) (b.core env)) ∙ done.0, done.1)
 
   process_well : (env : Env) (name : Name) (p : Option SectionPart) → BodySuits table core c env → SoundScope env.scope →
-      Where WellProcess p →
+      Where WellSection p →
       Every (IsReached env.captures) (uses_outside (process_finished env.scope (option_map section_judged p)).uses) →
       (process_finished env.scope (option_map section_judged p)).faults ≡ [] →
       Every (Contains core.classes) (process_made c.number env name p).classes →

@@ -200,8 +200,8 @@ WellAddend a = WellPart a.value
 abbrev pub WellArm : ArmPart → Type 0
 WellArm a = WellPart a.condition × WellPiece a.block
 
-abbrev pub WellProcess : SectionPart → Type 0
-WellProcess p = WellPiece p.block
+abbrev pub WellSection : SectionPart → Type 0
+WellSection p = WellPiece p.block
 
 abbrev pub WellOperation : OperationPart → Type 0
 WellOperation o = WellPiece o.block × Where WellPiece o.failure
@@ -217,7 +217,7 @@ pub record WellBody (b : BodyPart) : Type 0 where
   pub ranged : RangedBody b
   pub members : Every WellMember b.members
   pub initially : Where WellPiece b.initially
-  pub process : Where WellProcess b.process
+  pub process : Where WellSection b.process
 
 abbrev pub WellHolder : Holder → Type 0
 WellHolder h = WellBody h.body

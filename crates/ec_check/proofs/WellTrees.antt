@@ -17,7 +17,7 @@ use Rattle.ec_check.proofs.Every.{Every}
 use Rattle.ec_check.proofs.Every.{each_within}
 use Rattle.ec_check.proofs.WellExpressions.{expression_well, WellParts}
 use Rattle.ec_check.proofs.WellParts.{WellPart, WellLink, WellMember, WellStatement, WellAddend, WellArm, WellPiece, WellBody}
-use Rattle.ec_check.proofs.WellParts.{WellFactor, WellConstructor, WellOperation, WellProcess}
+use Rattle.ec_check.proofs.WellParts.{WellFactor, WellConstructor, WellOperation, WellSection}
 use Rattle.ec_check.proofs.WellStatements.{statement_well, block_well}
 use Rattle.ec_check.proofs.WellStatements as statements
 use Rattle.ec_check.proofs.GoodTrees.{good_part, good_statement, good_block, good_body}
@@ -33,7 +33,7 @@ use Rattle.ec_check.specs.Tree.{link_step, member_step, body_step}
 use Rattle.ec_check.specs.Tree.{part_of, link_of, member_of, statement_of, addend_of, arm_of, factor_of}
 use Rattle.ec_check.specs.Tree.{operation_step, argument_of}
 use Rattle.ec_check.proofs.WellHeld.{IsWellPart, IsWellLink, IsWellMember, IsWellStatement, IsWellAddend, IsWellArm, IsWellBlock}
-use Rattle.ec_check.proofs.WellHeld.{IsWellBody, IsWellFactor, IsWellObject, IsWellOperation, IsWellProcess, well}
+use Rattle.ec_check.proofs.WellHeld.{IsWellBody, IsWellFactor, IsWellObject, IsWellOperation, IsWellSection, well}
 use Rattle.ec_check.proofs.WellHeld.{IsWellArgument}
 use Rattle.ec_ast.proofs.Claims.{Passes, Held, ExpressionWith, LinkWith, MemberWith, StatementWith, AddendWith, ArmWith}
 use Rattle.ec_ast.proofs.Claims.{BlockWith, BodyWith, FactorWith, ObjectWith, OperationWith, SectionWith, bare_expression}
@@ -151,10 +151,10 @@ member_is (Member-F.Operation o) = o.1
 member_at : (y : MemberWith well) → IsWellMember (roll-Member (bare_member well y))
 member_at y = subst WellMember (sym (member_rolled (bare_member well y))) (member_is y)
 
-abbrev with_failure : OperationWith well → Option (Held IsWellProcess) → OperationWith well
+abbrev with_failure : OperationWith well → Option (Held IsWellSection) → OperationWith well
 with_failure y failure = record y { failure = failure }
 
-operation_is : (y : OperationWith well) (failure : Option (Held IsWellProcess)) →
+operation_is : (y : OperationWith well) (failure : Option (Held IsWellSection)) →
     WellOperation (operation_step (operation_mapped (bare_operation well (with_failure y failure))))
 operation_is y None = (y.block.1, tt)
 operation_is y (Some c) = (y.block.1, c.1)
@@ -162,13 +162,13 @@ operation_is y (Some c) = (y.block.1, c.1)
 operation_at : (y : OperationWith well) → IsWellOperation (roll-Operation (bare_operation well y))
 operation_at y = subst WellOperation (sym (operation_rolled (bare_operation well y))) (operation_is y y.failure)
 
-process_at : (y : SectionWith well) → IsWellProcess (roll-Section (bare_section well y))
-process_at y = subst WellProcess (sym (section_rolled (bare_section well y))) y.block.1
+section_at : (y : SectionWith well) → IsWellSection (roll-Section (bare_section well y))
+section_at y = subst WellSection (sym (section_rolled (bare_section well y))) y.block.1
 
-abbrev body_layer : List (Held IsWellMember) → Option (Held IsWellProcess) → Option (Held IsWellProcess) → Span → BodyWith well
+abbrev body_layer : List (Held IsWellMember) → Option (Held IsWellSection) → Option (Held IsWellSection) → Span → BodyWith well
 body_layer ms i p at = record { members = ms; initially = i; process = p; end_at = at }
 
-body_is : (ms : List (Held IsWellMember)) (i p : Option (Held IsWellProcess)) (at : Span) →
+body_is : (ms : List (Held IsWellMember)) (i p : Option (Held IsWellSection)) (at : Span) →
     SoundBody (body_step (body_mapped (bare_body well (body_layer ms i p at)))) →
     RangedBody (body_step (body_mapped (bare_body well (body_layer ms i p at)))) →
     WellBody (body_step (body_mapped (bare_body well (body_layer ms i p at))))
@@ -207,7 +207,7 @@ passes = record {
   factor = factor_at;
   object = object_at;
   operation = operation_at;
-  section = process_at;
+  section = section_at;
 }
 
 pub well_part : (x : Expression) → IsWellPart x
