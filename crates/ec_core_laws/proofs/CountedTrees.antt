@@ -35,7 +35,7 @@ use Rattle.ec_check.specs.Tree.{part_of, link_of, member_of, statement_of, adden
 use Rattle.ec_check.specs.Tree.{argument_of}
 use Rattle.ec_types.specs.Declarations as conform
 use Rattle.ec_types.specs.Declarations.{both, joined, nothing, in_expression, in_link, in_member, in_statement, in_addend, in_arm}
-use Rattle.ec_types.specs.Declarations.{in_block, in_body, in_factor, in_constructor, in_section, in_argument, operation_at}
+use Rattle.ec_types.specs.Declarations.{in_block, in_body, in_factor, in_constructor, in_section, in_argument}
 use Rattle.ec_types.specs.declared.conform.declared.Declarations.{Declarations}
 use Rattle.ec_core_laws.proofs.CountedHeld.{IsCountedPart, IsCountedLink, IsCountedMember, IsCountedStatement, IsCountedAddend}
 use Rattle.ec_core_laws.proofs.CountedHeld.{IsCountedArm, IsCountedBlock, IsCountedBody, IsCountedFactor, IsCountedObject}
@@ -417,7 +417,7 @@ body_is ms None None at = record {
 }
 body_is ms None (Some p) at = record {
   first = nothing;
-  last = operation_at (in_section p.0).at (in_section p.0).within;
+  last = conform.operation_at (in_section p.0).at (in_section p.0).within;
   within = refl;
   members = member_pairs ms;
   initially = λ scope. nothing_counted;
@@ -433,7 +433,7 @@ body_is ms (Some i) None at = record {
 }
 body_is ms (Some i) (Some p) at = record {
   first = (in_section i.0).within;
-  last = operation_at (in_section p.0).at (in_section p.0).within;
+  last = conform.operation_at (in_section p.0).at (in_section p.0).within;
   within = refl;
   members = member_pairs ms;
   initially = i.1.block;

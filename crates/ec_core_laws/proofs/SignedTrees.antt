@@ -35,7 +35,6 @@ use Rattle.ec_types.specs.Declarations as conform
 use Rattle.ec_types.specs.Declarations.{both, joined, nothing, within_members, in_expression, in_link, in_member, in_statement}
 use Rattle.ec_types.specs.Declarations.{in_addend, in_arm, in_block, in_body, in_factor, in_constructor, in_section}
 use Rattle.ec_types.specs.Declarations.{in_argument}
-use Rattle.ec_types.specs.Declarations.{operation_at}
 use Rattle.ec_types.specs.declared.conform.declared.Declarations.{Declarations}
 use Rattle.ec_core_laws.proofs.Signatures as signatures
 use Rattle.ec_core_laws.proofs.Signatures.{KnowsTypes, KnowsMember, KnowsBody, KnowingPart, KnowingLink, KnowingFactor, KnowingAddend}
@@ -435,12 +434,12 @@ body_is : (ms : List (Held IsKnowingMember)) (i p : Option (Held IsKnowingSectio
     (conform.body_step (body_declared (bare_body knowing (body_layer ms i p at))))
 body_is ms None None at = λ scope is_monitored e f g. body_types scope is_monitored ms nothing nothing e tt tt
 body_is ms None (Some p) at = λ scope is_monitored e f g.
-    body_types scope is_monitored ms nothing (operation_at (in_section p.0).at (in_section p.0).within) e tt
+    body_types scope is_monitored ms nothing (conform.operation_at (in_section p.0).at (in_section p.0).within) e tt
     (p.1 (in_a_process scope) (none_left _ _ g))
 body_is ms (Some i) None at = λ scope is_monitored e f g.
     body_types scope is_monitored ms (in_section i.0).within nothing e (i.1 scope f) tt
 body_is ms (Some i) (Some p) at = λ scope is_monitored e f g.
-    body_types scope is_monitored ms (in_section i.0).within (operation_at (in_section p.0).at (in_section p.0).within) e
+    body_types scope is_monitored ms (in_section i.0).within (conform.operation_at (in_section p.0).at (in_section p.0).within) e
     (i.1 scope f) (p.1 (in_a_process scope) (none_left _ _ g))
 
 body_at : (y : BodyWith knowing) → IsKnowingBody (roll-Body (bare_body knowing y))
