@@ -21,6 +21,7 @@ use Rattle.ec_ast.specs.Kinds.{BodyLayer, FactorLayer, ObjectLayer, OperationLay
 use Rattle.ec_ast.specs.Layers.{Maps, expression_mapped, link_mapped, member_mapped, statement_mapped, addend_mapped}
 use Rattle.ec_ast.specs.Layers.{arm_mapped, block_mapped, body_mapped, factor_mapped, object_mapped, operation_mapped}
 use Rattle.ec_ast.specs.Layers.{section_mapped}
+use Rattle.ec_ast.specs.Layers.{argument_mapped}
 
 -- a claim of the parts of each kind
 pub record Claims : Type 1 where

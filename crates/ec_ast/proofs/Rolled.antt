@@ -24,10 +24,12 @@ use Rattle.ec_ast.specs.Kinds.{BodyLayer, FactorLayer, ObjectLayer, OperationLay
 use Rattle.ec_ast.specs.Folds.{Steps, expression_folded, link_folded, member_folded, statement_folded, addend_folded}
 use Rattle.ec_ast.specs.Folds.{arm_folded, block_folded, body_folded, factor_folded, object_folded, operation_folded}
 use Rattle.ec_ast.specs.Folds.{section_folded}
+use Rattle.ec_ast.specs.Folds.{argument_folded}
 use Rattle.ec_ast.specs.Layers.{Maps, expression_mapped, link_mapped, member_mapped, statement_mapped, addend_mapped}
 use Rattle.ec_ast.specs.Layers.{arm_mapped, block_mapped, body_mapped, factor_mapped, object_mapped, operation_mapped}
 use Rattle.ec_ast.specs.Layers.{section_mapped, expression_with, statement_with, member_with, operation_with, body_with, layer_of}
 use Rattle.ec_ast.specs.Layers.{statement_layer}
+use Rattle.ec_ast.specs.Layers.{argument_mapped}
 
 -- ---- of a part that is made of a layer
 

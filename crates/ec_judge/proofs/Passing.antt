@@ -1,6 +1,7 @@
 -- The steps along a chain as the code takes them: from what the calls find and leave behind to what the rules say.
 use Rattle.std.proofs.Common.{◌≡◌, ℕ, ◌+◌, ◌<◌, ◌≤◌, ◌-◌, ◌||◌, not, Bool, List, [], ◌∷◌, drop, get_or, length, map, refl, sym}
 use Rattle.std.proofs.Common.{ap, ◌∙◌, arith}
+use Rattle.std.proofs.Common.{Option}
 use Rattle.std.proofs.Math.Dec.{eqb}
 use Rattle.std.proofs.lemmas.Bool.{eq-eqb, ne_eqb}
 use Rattle.std.proofs.lemmas.List.{append-nil, at_drop_all, at_drop_more, length-drop}
@@ -21,6 +22,7 @@ use Rattle.ec_rules.specs.Rules.{begun, noted}
 use Rattle.ec_rules.specs.Tree.{link_of}
 use Rattle.ec_rules.specs.declared.faults.Faults.{Faults}
 use Rattle.ec_rules.specs.declared.judged.Judged.{Judged}
+use Rattle.ec_ast.specs.declared.Carried.{Carried}
 
 -- ---- a call
 

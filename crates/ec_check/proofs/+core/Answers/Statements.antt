@@ -1,7 +1,7 @@
 -- Answers: what is left to show of the functions of `statements`.
 use Rattle.std.proofs.Common.{◌≡◌, ◌+◌, ◌++◌, [], ◌∷◌, IfOk, drop, length, map, option_map, Some, true, refl, sym, ap, ◌∙◌, subst}
 use Rattle.std.proofs.lemmas.List.{drop_all}
-use Rattle.ec_check.proofs.Equations.{process_step_of}
+use Rattle.ec_check.proofs.Equations.{section_step_of}
 use Rattle.ec_check.proofs.Along.{AlongStatements, found_end, gone_end, gone_first, statement_next, drop_more}
 use Rattle.ec_check.proofs.Blocks as blocks
 use Rattle.ec_check.proofs.Blocks.{on_ok}
@@ -396,14 +396,14 @@ resolve_section_if-returns-in-None-clause-gone t c = rw c.in-None.is (gone_made 
 pub resolve_section_if-returns-in_ok-resolve_block-in-Some-clause-core :
     goal.statements::resolve_section_if-returns-in_ok-resolve_block-in-Some-clause-core
 resolve_section_if-returns-in_ok-resolve_block-in-Some-clause-core t c =
-    let step = process_step_of c.in-Some.s in
+    let step = section_step_of c.in-Some.s in
     rw c.in-Some.is (ap Some (c.in_ok-resolve_block-in-Some.ensures.core
     ∙ ap (λ (p : SectionPart). p.block.core (env_of c.args.r.now)) (sym step)))
 
 pub resolve_section_if-returns-in_ok-resolve_block-in-Some-clause-gone :
     goal.statements::resolve_section_if-returns-in_ok-resolve_block-in-Some-clause-gone
 resolve_section_if-returns-in_ok-resolve_block-in-Some-clause-gone t c =
-    let step = process_step_of c.in-Some.s in
+    let step = section_step_of c.in-Some.s in
     let env = env_of c.args.r.now in
     rw c.in-Some.is (gone_same
     (ap (λ (p : SectionPart). spec.behind_block env p.block) (sym step))
