@@ -183,7 +183,7 @@ module _ (S : StatementPart → Type 0) (B : Piece → Type 0) where
       (e.rolls-Construct (number_of_holder env.scope o.holder) (map (place_of env) (captures_of env.scope o.holder))) refl
   layer_gives (Expression-F.NodeAt x at word) h env s f =
       gives_by (e.NodeAt _ _) (Core-F.NodeAt _ _) (e.rolls-NodeAt (x.core env) word.from) refl
-  layer_gives (Expression-F.NodeCount at) h env s f = gives_by e.NodeCount Core-F.NodeCount e.rolls-NodeCount refl
+  layer_gives (Expression-F.NodeCount at word) h env s f = gives_by e.NodeCount Core-F.NodeCount e.rolls-NodeCount refl
   layer_gives (Expression-F.NewVector of x at word) h env s f =
       gives_by (e.NewVector _ _ _) (Core-F.NewVector _ _ _)
       (e.rolls-NewVector (vector_of (written_in env.scope of)) (x.core env) word.from) refl
