@@ -1,4 +1,5 @@
--- A move for which an activation asks, once its action is done: the world needs as much of nodes as where it is still to be done.
+-- A move for which an activation asks, once its stop is done: the world needs as much of nodes as where it is still to be done, whether the
+-- objects have gone yet or not.
 use Rattle.std.proofs.Common.{◌≡◌, ◌≢◌, ◌⊎◌, ℕ, inl, inr, ⊎_elim, List, [], ◌∷◌, ◌++◌, length, Option, Some, None, sym, ap, ◌∙◌}
 use Rattle.std.proofs.Common.{subst, arith, append-nil}
 use Rattle.std.proofs.lemmas.Option.{same_Some}
@@ -21,6 +22,7 @@ use Rattle.ec_gathering.proofs.Ended.{ended, text_stays}
 use Rattle.ec_gathering.proofs.Operands.{moves_others, no_text_moves}
 use Rattle.ec_gathering.proofs.Same.{SameNeeds}
 use Rattle.ec_gathering.proofs.Things.{frame_is}
+use Rattle.ec_gathering.specs.Settled.{stop_done}
 use Rattle.ec_world.proofs.Procs.{activation_here, activation_is, activation_there, get_but_end, get_end}
 use Rattle.ec_world.specs.Things.{activation_at}
 use Rattle.ec_world.specs.declared.key.Key.{Key}
@@ -66,12 +68,9 @@ end_or_still below top new depth a is = ⊎_elim
     (same_or_not depth (length below))
 
 module _ (d : Declared) (s : System) (w : CodeWorld) (below : List CodeActivation) (top : CodeActivation) (who : Who) (members : List ℕ)
-    (target : ℕ) (fixes : Option ℕ) (runs : Runs d s w) (asks : Asks w below top who (Moves members target fixes)) where
-  abbrev common : Common
-  common = gone w.common members target fixes
-
-  -- the world in which the objects have gone, and the action is still to be done
-  abbrev pub moved : CodeWorld
+    (target : ℕ) (fixes : Option ℕ) (runs : Runs d s w) (asks : Asks w below top who (Moves members target fixes)) (common : Common) where
+  -- the world in which what is beside processes has come to be this, and the stop is still to be done
+  abbrev moved : CodeWorld
   moved = with_common w common
 
   abbrev next : Proc CodeActivation
@@ -80,9 +79,6 @@ module _ (d : Declared) (s : System) (w : CodeWorld) (below : List CodeActivatio
   -- the world in which it is done
   abbrev acted : CodeWorld
   acted = after moved who.process below top common (only (GoesOn None)) (common.objects, [])
-
-  acted_is : Action code_meaning w who.process ≡ acted
-  acted_is = action_is w below top who (Moves members target fixes) asks
 
   -- ---- activations
 
@@ -188,12 +184,26 @@ module _ (d : Declared) (s : System) (w : CodeWorld) (below : List CodeActivatio
             frame q depth f.activation (ap (λ (x : Thing). places x.home) f.is ∙ at)
             (subst (λ (x : Thing). Has x.values (Str text)) (sym f.is) has) (each_stays q depth f.activation f.there)
 
-    pub acted_needs : SameNeeds s.cluster places moved (Action code_meaning w who.process)
-    acted_needs = subst (λ (x : CodeWorld). SameNeeds s.cluster places moved x) (sym acted_is) (record {
+    pub ended_needs : SameNeeds s.cluster places moved acted
+    ended_needs = record {
       blocks = as_many;
       before = wanted_then;
       now = λ k text wants. ⊎_elim
           (λ (h : IsHeld (things_of (frame_of s.cluster) moved) places k text). inl (held_still k text h))
           (λ (g : Has common.globals (Str text)). inr g)
           wants;
-    })
+    }
+
+module _ (d : Declared) (s : System) (w : CodeWorld) (below : List CodeActivation) (top : CodeActivation) (who : Who) (members : List ℕ)
+    (target : ℕ) (fixes : Option ℕ) (runs : Runs d s w) (asks : Asks w below top who (Moves members target fixes))
+    (places : ℕ → Option ℕ) where
+  -- where the objects have gone
+  pub acted_needs : SameNeeds s.cluster places (with_common w (gone w.common members target fixes)) (Action code_meaning w who.process)
+  acted_needs =
+      subst (λ (x : CodeWorld). SameNeeds s.cluster places (with_common w (gone w.common members target fixes)) x)
+      (sym (action_is w below top who (Moves members target fixes) asks))
+      (ended_needs d s w below top who members target fixes runs asks (gone w.common members target fixes) places)
+
+  -- where they are still to go
+  pub stop_needs : SameNeeds s.cluster places w (stop_done w who.process below top)
+  stop_needs = ended_needs d s w below top who members target fixes runs asks w.common places

@@ -57,8 +57,8 @@ module _ (d : Declared) (table : ClassTable) (c : Cluster) (w : CodeWorld) (memb
   here = brings.sends.ships b (has_first b bs)
 
   -- the next parcel can come
-  pub next_carried : IsCarriedIn table c b.from to b.bytes.items d w members x
-  next_carried =
+  pub next_carried : (bytes : List ℕ) → IsWire x bytes → IsCarriedIn table c b.from to bytes d w members x
+  next_carried bytes wire =
       let sends = brings.sends in
       let apart = sends.apart b.from (has_first b.from (froms bs)) in
       let s = node_at c to sends.there in
@@ -68,7 +68,7 @@ module _ (d : Declared) (table : ClassTable) (c : Cluster) (w : CodeWorld) (memb
         images = sends.steady.images;
         each_is = λ oid h. let l = sends.loose oid h in (l.object, l.is);
         packs = here.packs;
-        wire = here.spelled;
+        wire = wire;
         unfixed = λ oid o goes.
             let l = sends.loose oid goes.member in
             let same : l.object ≡ o = same_Some l.object o (sym l.is ∙ goes.is) in
@@ -100,24 +100,21 @@ module _ (d : Declared) (table : ClassTable) (old c : Cluster) (w : CodeWorld) (
   brings_next : Brings d table c w members to (b ∷ drop (i + 1) bs)
   brings_next = subst (λ (ys : List Shipment). Brings d table c w members to ys) (drop_at bs i b is) so_far.brings
 
-  pub next_spelled : IsWire b.parcel b.bytes.items
-  next_spelled = (brings_next.sends.ships b (has_first b (drop (i + 1) bs))).spelled
-
-  pub next_can : CanCarry table c b.from to b.bytes.items
-  next_can = record {
+  pub next_can : (bytes : List ℕ) → IsWire b.parcel bytes → CanCarry table c b.from to bytes
+  next_can bytes wire = record {
     declared = d;
     world = w;
     members = members;
     contents = b.parcel;
-    carried = next_carried d table c w members to b (drop (i + 1) bs) brings_next;
+    carried = next_carried d table c w members to b (drop (i + 1) bs) brings_next bytes wire;
   }
 
   -- it has come
-  pub next_bringing : (c' : Cluster) → Shows old w →
-      ((x : Contents) → IsCarriedIn table c b.from to b.bytes.items d w members x → Carried c c' w x to) →
+  pub next_bringing : (c' : Cluster) → Shows old w → (bytes : List ℕ) → IsWire b.parcel bytes →
+      ((x : Contents) → IsCarriedIn table c b.from to bytes d w members x → Carried c c' w x to) →
       IsBringing d table old c' w members to (drop (i + 1) bs)
-  next_bringing c' shows come =
-      let carried = come b.parcel (next_carried d table c w members to b (drop (i + 1) bs) brings_next) in
+  next_bringing c' shows bytes wire come =
+      let carried = come b.parcel (next_carried d table c w members to b (drop (i + 1) bs) brings_next bytes wire) in
       record {
         brings = next_brings d table c w members to b (drop (i + 1) bs) brings_next c' carried;
         came =

@@ -5,11 +5,12 @@ use Rattle.std.proofs.lemmas.Option.{same_Some}
 use Rattle.std.specs.Prelude.{slice_get, slice_set}
 use Rattle.ec_base.proofs.Lists.{get_set_other, get_set_same, get_within, length_set}
 use Rattle.ec_cluster.specs.Cluster.{place}
-use Rattle.ec_gathering.proofs.Needs.{each_fits, is_full}
+use Rattle.ec_gathering.proofs.Along.{but_back}
+use Rattle.ec_gathering.proofs.Needs.{each_fits, has_room, is_full}
 use Rattle.ec_gathering.proofs.Same.{each_same, fixed_needs, full_same}
 use Rattle.ec_fullness.specs.Fullness.{gathered}
 use Rattle.ec_gathering.specs.Gathering.{ButFixed}
-use Rattle.ec_gathering.specs.GatheringRoomLaws.{GatheringFits, GatheringIsFull, GoneIsSuch, OperatorMovesAreSuch}
+use Rattle.ec_gathering.specs.GatheringRoomLaws.{GatheringFits, GatheringIsFull, GoneIsSuch, OperatorMovesAreSuch, ParcelsFit}
 use Rattle.ec_things.proofs.Put.{same_or_not}
 use Rattle.ec_world.specs.Moves.{is_idle_move, moved_unless}
 use Rattle.ec_world.specs.Objects.{changed_if, changed_object, object_at}
@@ -25,6 +26,12 @@ pub gathering_fits : GatheringFits
 gathering_fits table c w w' members to xs s can but there room =
     let places : ℕ → Option ℕ = gathered (place c) members to in
     each_same c w w w' places (fixed_needs c places w w' but) (each_fits table c w members to xs can s there room)
+
+pub parcels_fit : ParcelsFit
+parcels_fit table c w w' members to xs s can but there fits =
+    let places : ℕ → Option ℕ = gathered (place c) members to in
+    has_room table c w members to xs can s there
+    (each_same c w w' w places (fixed_needs c places w' w (but_back w w' but)) fits)
 
 -- ---- worlds
 

@@ -19,7 +19,7 @@ use Rattle.ec_acts.proofs.Stepping.{Beside, mirrors_with_common, with_cluster}
 use Rattle.ec_fullness.proofs.Keeping.{steady_after}
 use Rattle.ec_fullness.proofs.Shown.{has_object}
 use Rattle.ec_cluster.specs.Whereabouts.{MovedOnce, Traces, WentTo, made_count, place_at}
-use Rattle.ec_fullness.specs.Fullness.{IsFull, gathered}
+use Rattle.ec_fullness.specs.Fullness.{EachFits, IsFull, gathered}
 use Rattle.ec_gathering.proofs.Along.{but_back, but_then, packs_along}
 use Rattle.ec_gathering.proofs.Changing.{changes_before, changes_behind}
 use Rattle.ec_gathering.proofs.Coming.{node_at}
@@ -28,10 +28,10 @@ use Rattle.ec_gathering.proofs.Moves.{object_of}
 use Rattle.ec_gathering.proofs.Next.{can_gather_so, member_or_not}
 use Rattle.ec_gathering.proofs.Told.{if_some}
 use Rattle.ec_gathering.specs.Bringing.{Brings, Brought, NoneHasResult, Sends, flag_if}
-use Rattle.ec_gathering.specs.Gathers.{Gathers, LacksFor, LetsGo, MayGather, world_gathered}
+use Rattle.ec_gathering.specs.Gathers.{FitsFor, Gathers, LacksFor, LetsGo, MayGather, world_gathered}
 use Rattle.ec_gathering.specs.Shipping.{AreShipped, EachIsShipped, froms, parcels_of}
 use Rattle.ec_gathering.specs.declared.shipping.Shipment.{Shipment}
-use Rattle.ec_gathering.proofs.Gathered.{gathering_full, gone_is_such}
+use Rattle.ec_gathering.proofs.Gathered.{gathering_fits, gathering_full, gone_is_such, parcels_fit}
 use Rattle.ec_gathering.proofs.GatheringRoomLists.{has_is_in, is_in_has}
 use Rattle.ec_gathering.proofs.Same.{fixed_needs}
 use Rattle.ec_gathering.specs.Gathering.{ButFixed, CanGather}
@@ -187,6 +187,32 @@ module _ (d : Declared) (s : System) (w : CodeWorld) (table : ClassTable) (membe
 
     -- ---- the node has room
 
+    is_fitting : (store : Store) → stores old to ≡ Some store →
+        HasRoomForAll store (all_blocks table (parcels_of bs)) (all_values (parcels_of bs)) → FitsFor old w members target fixes
+    is_fitting store e room = λ k its.
+        subst (λ n. EachFits old w (world_gathered w members target fixes) (gathered (place old) members n))
+        (same_Some to k (sym at ∙ its))
+        (gathering_fits table old w (world_gathered w members target fixes) members to (parcels_of bs) store goes_in
+        (gone_is_such w members target fixes) e room)
+
+    pub fitting_these : (ys : List Shipment) → ys ≡ bs →
+        ((store : Store) → stores old to ≡ Some store →
+        HasRoomForAll store (all_blocks table (parcels_of ys)) (all_values (parcels_of ys))) →
+        FitsFor old w members target fixes
+    fitting_these ys same room =
+        let store = node_at old to to_low in
+        is_fitting store.0 store.1
+        (subst (λ (zs : List Shipment). HasRoomForAll store.0 (all_blocks table (parcels_of zs)) (all_values (parcels_of zs))) same
+        (room store.0 store.1))
+
+    -- where there is room for the world after, there is room for the parcels
+    pub room_these : FitsFor old w members target fixes → (ys : List Shipment) → ys ≡ bs → (store : Store) → stores old to ≡ Some store →
+        HasRoomForAll store (all_blocks table (parcels_of ys)) (all_values (parcels_of ys))
+    room_these fits ys same store e =
+        subst (λ (zs : List Shipment). HasRoomForAll store (all_blocks table (parcels_of zs)) (all_values (parcels_of zs))) (sym same)
+        (parcels_fit table old w (world_gathered w members target fixes) members to (parcels_of bs) store goes_in
+        (gone_is_such w members target fixes) e (fits to at))
+
     module _ (loose : Cluster) (changes : Changes Nothing old loose) (whereabouts : loose.whereabouts ≡ old.whereabouts)
         (shows_loose : Shows loose loosened) where
       place_same : (oid : ℕ) → place loose oid ≡ place old oid
@@ -194,7 +220,7 @@ module _ (d : Declared) (s : System) (w : CodeWorld) (table : ClassTable) (membe
 
       ships_loose : EachIsShipped table loose loosened members bs
       ships_loose b h = record {
-        spelled = (ships.each b h).spelled;
+        rules = (ships.each b h).rules;
         packs =
             packs_along table old loose w loosened members b.from (but_flag w fixes false)
             (λ oid member is. place_same oid ∙ is) (λ oid member is. sym (place_same oid) ∙ is) changes.parts

@@ -23,3 +23,4 @@ pub mod Flags
 pub mod Next
 pub mod Coming
 pub mod Gone
+pub mod Settled

@@ -57,6 +57,29 @@ module _ (table : ClassTable) (c : Cluster) (w : CodeWorld) (members : List ℕ)
       fits = (room.blocks_fit, room.texts_fit.fits);
     }
 
+    -- so it is the other way round
+    room_here : FitsAt c w w after to s → HasRoomForAll s (all_blocks table xs) (all_values xs)
+    room_here f = record {
+      blocks_fit =
+          let blocks = f.are.blocks in
+          let free = f.are.free_blocks in
+          let fits = f.fits.0 in
+          omega (arith, blocks, free, fits, held_to table c w members to xs can);
+      texts_fit = record {
+        bytes = f.needs.bytes;
+        needs = record {
+          texts = f.are.bytes.texts;
+          once = f.are.bytes.once;
+          these = λ text. (
+            λ h. let x = (f.are.bytes.these text).0 h in (comes text x.0 x.1, x.1),
+            λ h. (f.are.bytes.these text).1 (comes_wanted table c w members to xs can text h.0, h.1),
+          );
+          bytes = f.are.bytes.bytes;
+        };
+        fits = (let free = f.are.free_bytes in let fits = f.fits.1 in omega (arith, free, fits));
+      };
+    }
+
   -- ---- at another node
 
   no_text : (k : ℕ) (s : Store) (text : List ℕ) → k ≢ to → stores c k ≡ Some s → Wants c after w k text → InPool s text
@@ -94,6 +117,9 @@ module _ (table : ClassTable) (c : Cluster) (w : CodeWorld) (members : List ℕ)
     lacks = l.lacks;
     first = λ k x low e. fits_off k x (λ same. omega (arith, low, same)) e;
   })
+
+  pub has_room : (s : Store) → stores c to ≡ Some s → EachFits c w w after → HasRoomForAll s (all_blocks table xs) (all_values xs)
+  has_room s there fits = room_here s there (fits to s there)
 
   pub each_fits : (s : Store) → stores c to ≡ Some s → HasRoomForAll s (all_blocks table xs) (all_values xs) → EachFits c w w after
   each_fits s there room k x e = ⊎_elim

@@ -70,7 +70,7 @@ module _ (table : ClassTable) (c : Cluster) (w : CodeWorld) (members : List ℕ)
   rules_of : (x : Contents) → Has (parcels_of bs) x → KeepsRules x
   rules_of x h =
       let p = get_mapped (λ (b : Shipment). b.parcel) bs h.at x h.is in
-      subst (λ (y : Contents). KeepsRules y) p.2 (ships p.0 (record { at = h.at; is = p.1 })).spelled.rules
+      subst (λ (y : Contents). KeepsRules y) p.2 (ships p.0 (record { at = h.at; is = p.1 })).rules
 
   pub can_gather_so : CanGather table c w members to (parcels_of bs)
   can_gather_so = record {
@@ -174,7 +174,7 @@ module _ (d : Declared) (table : ClassTable) (c : Cluster) (w : CodeWorld) (memb
       let ne : b2.from ≢ to = (sends.apart b2.from (has_later b.from b2.from (froms bs) from)).1 in
       let other : b2.from ≢ b.from = λ same. once_first b.from (froms bs) sends.once (subst (Has (froms bs)) same from) in
       record {
-        spelled = shipped.spelled;
+        rules = shipped.rules;
         packs = packs_along table c c' w w members b2.from (but_itself w) (forth b2.from other) (back b2.from ne) carried.changes.parts
             b2.parcel shipped.packs;
       }

@@ -1,19 +1,26 @@
--- What is told of an option, by what it is.
-use Rattle.std.proofs.Common.{◌≡◌, Option, Some, None, false, refl, subst}
-use Rattle.std.specs.Prelude.{IfNone, IfSome, is_some}
+-- What is told of an answer, by what it is.
+use Rattle.std.proofs.Common.{◌≡◌, Option, Some, None, refl, subst}
+use Rattle.std.specs.Prelude.{Err, IfNone, IfOk, IfSome, Ok, Result}
 
 pub if_some : {A : Type 0} (P : A → Type 0) (o : Option A) → ((x : A) → o ≡ Some x → P x) → IfSome o P
 if_some P None f = tt
 if_some P (Some x) f = f x refl
 
-pub if_none : {A P : Type 0} (o : Option A) → (is_some o ≡ false → P) → IfNone o P
-if_none None f = f refl
-if_none (Some x) f = tt
+-- ---- an answer that may be an error
 
-pub none_told : {A P : Type 0} (o : Option A) → is_some o ≡ false → IfNone o P → P
-none_told None e told = told
-none_told (Some x) e told = absurd cc
+module _ {A E : Type 0} where
+  pub ok_none : {P : Type 0} (r : Result (Option A) E) → (r ≡ Ok None → P) → IfOk r (λ o. IfNone o P)
+  ok_none (Ok None) f = f refl
+  ok_none (Ok (Some x)) f = tt
+  ok_none (Err e) f = tt
 
-pub some_told : {A : Type 0} (P : A → Type 0) (o : Option A) (x : A) → o ≡ Some x → IfSome o P → P x
-some_told P None x e told = absurd cc
-some_told P (Some y) x e told = let same : y ≡ x = cc in subst P same told
+  pub ok_some : (P : A → Type 0) (r : Result (Option A) E) → ((x : A) → r ≡ Ok (Some x) → P x) → IfOk r (λ o. IfSome o P)
+  ok_some P (Ok None) f = tt
+  ok_some P (Ok (Some x)) f = f x refl
+  ok_some P (Err e) f = tt
+
+  pub told_none : {P : Type 0} (r : Result (Option A) E) → r ≡ Ok None → IfOk r (λ o. IfNone o P) → P
+  told_none {P = P} r is told = subst (λ (x : Result (Option A) E). IfOk x (λ o. IfNone o P)) is told
+
+  pub told_some : (P : A → Type 0) (r : Result (Option A) E) (x : A) → r ≡ Ok (Some x) → IfOk r (λ o. IfSome o P) → P x
+  told_some P r x is told = subst (λ (y : Result (Option A) E). IfOk y (λ o. IfSome o P)) is told

@@ -44,6 +44,16 @@ GatheringFits =
     HasRoomForAll s (all_blocks table xs) (all_values xs) →
     EachFits c w w' (gathered (place c) members to)
 
+-- Where each node has room for the world after, node `to` has room for all of them.
+abbrev pub ParcelsFit : Type 0
+ParcelsFit =
+    (table : ClassTable) (c : Cluster) (w w' : CodeWorld) (members : List ℕ) (to : ℕ) (xs : List Contents) (s : Store) →
+    CanGather table c w members to xs →
+    ButFixed w w' →
+    stores c to ≡ Some s →
+    EachFits c w w' (gathered (place c) members to) →
+    HasRoomForAll s (all_blocks table xs) (all_values xs)
+
 -- What an action does beside the processes where it moves objects is such a change.
 abbrev pub GoneIsSuch : Type 0
 GoneIsSuch =

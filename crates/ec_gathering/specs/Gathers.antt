@@ -1,4 +1,4 @@
--- The first step of a move of a group between nodes: what it asks for, and what it leaves.
+-- A move of a group between nodes: what it asks for, and what it leaves.
 use Rattle.std.specs.Prelude.{◌≡◌, ◌≢◌, ℕ, false, List, Option, Some, IsSome}
 use Rattle.ec_asking.specs.Bare.{IsBareProgram}
 use Rattle.ec_asking.specs.Typed.{IsTypedOnce}
@@ -8,7 +8,7 @@ use Rattle.ec_cluster.specs.Steps.{Changes, with_common}
 use Rattle.ec_cluster.specs.declared.cluster.Cluster.{Cluster}
 use Rattle.ec_code.specs.Typing.{Declared}
 use Rattle.ec_cluster.specs.Whereabouts.{made_count}
-use Rattle.ec_fullness.specs.Fullness.{IsFull, gathered}
+use Rattle.ec_fullness.specs.Fullness.{EachFits, IsFull, gathered}
 use Rattle.ec_packing.specs.Between.{IsBetween}
 use Rattle.ec_parcels.specs.Classes.{ClassTable}
 use Rattle.ec_world.specs.declared.room.Lack.{Lack}
@@ -56,11 +56,32 @@ pub record MayGatherSome (s : System) (table : ClassTable) (members : List ℕ) 
   pub world : CodeWorld
   pub may : MayGather declared s world table members target fixes
 
--- ---- what it comes to
+-- ---- room for it
 
 -- the world in which a group has gone where an object is, and one of it is fixed from then on, if any
 abbrev pub world_gathered : CodeWorld → List ℕ → ℕ → Option ℕ → CodeWorld
 world_gathered w members target fixes = with_common w (gone w.common members target fixes)
+
+-- Each node has room for the world in which the group has gone.
+abbrev pub FitsFor : Cluster → CodeWorld → List ℕ → ℕ → Option ℕ → Type 0
+FitsFor c w members target fixes =
+    (to : ℕ) → place c target ≡ Some to →
+    EachFits c w (world_gathered w members target fixes) (gathered (place c) members to)
+
+-- The node where the target is lacks room for all of the group together, as the world tells that is to come.
+abbrev pub LacksFor : Cluster → CodeWorld → List ℕ → ℕ → Option ℕ → Lack → Type 0
+LacksFor c w members target fixes lack =
+    (to : ℕ) → place c target ≡ Some to →
+    IsFull c w (world_gathered w members target fixes) (gathered (place c) members to) lack.node lack.part lack.need lack.free
+
+-- In some world a group may go, and each node has room for it.
+pub record GathersSome (s : System) (table : ClassTable) (members : List ℕ) (target : ℕ) (fixes : Option ℕ) : Type 0 where
+  pub declared : Declared
+  pub world : CodeWorld
+  pub may : MayGather declared s world table members target fixes
+  pub fits : FitsFor s.cluster world members target fixes
+
+-- ---- what it comes to
 
 -- each object of a group is where the target was, and each other one where it was
 abbrev pub ArePlaced : Cluster → Cluster → List ℕ → ℕ → Type 0
@@ -75,9 +96,3 @@ pub record Gathers (old new : System) (w : CodeWorld) (members : List ℕ) (targ
   pub places : ArePlaced old.cluster new.cluster members target
   pub count : made_count new.cluster.whereabouts ≡ made_count old.cluster.whereabouts
   pub processes : new.processes ≡ old.processes
-
--- The node where the target is lacks room for all of the group together, as the world tells that is to come.
-abbrev pub LacksFor : Cluster → CodeWorld → List ℕ → ℕ → Option ℕ → Lack → Type 0
-LacksFor c w members target fixes lack =
-    (to : ℕ) → place c target ≡ Some to →
-    IsFull c w (world_gathered w members target fixes) (gathered (place c) members to) lack.node lack.part lack.need lack.free

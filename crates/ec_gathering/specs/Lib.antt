@@ -4,3 +4,4 @@ pub mod Gathers
 pub mod Shipping
 pub mod Bringing
 pub mod Laws
+pub mod Settled

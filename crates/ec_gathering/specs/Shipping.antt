@@ -1,4 +1,4 @@
--- The parcels of a group, their bytes, and the node from which each goes.
+-- The parcels of a group, and the node from which each goes.
 use Rattle.std.specs.Prelude.{◌≡◌, ◌≢◌, ◌<◌, ℕ, List, Option, Some, map}
 use Rattle.ec_cluster.specs.Cluster.{CodeWorld, place}
 use Rattle.ec_cluster.specs.declared.cluster.Cluster.{Cluster}
@@ -9,7 +9,7 @@ use Rattle.ec_parcels.specs.Classes.{ClassTable}
 use Rattle.ec_world.specs.Held.{Distinct}
 use Rattle.ec_parcels.specs.Parcels.{Packs}
 use Rattle.ec_cluster.specs.declared.system.System.{System}
-use Rattle.ec_wire.specs.WireForm.{IsWire}
+use Rattle.ec_wire.specs.WireForm.{KeepsRules}
 use Rattle.ec_wire.specs.declared.parcel.Contents.{Contents}
 use Rattle.ec_world.specs.Group.{Has}
 
@@ -45,10 +45,10 @@ pub record MayShip (s : System) (table : ClassTable) (members : List ℕ) : Type
   pub fixes : Option ℕ
   pub may : MayGather declared s world table members target fixes
 
--- The parcel of a shipment holds what goes of a group from its node, and its bytes are the parcel's.
+-- The parcel of a shipment holds what goes of a group from its node, and keeps the rules of the wire form.
 pub record IsShipped (table : ClassTable) (c : Cluster) (w : CodeWorld) (members : List ℕ) (shipment : Shipment) : Type 0 where
   pub packs : Packs table c w members shipment.from shipment.parcel
-  pub spelled : IsWire shipment.parcel shipment.bytes.items
+  pub rules : KeepsRules shipment.parcel
 
 -- so it is with each of these
 abbrev pub EachIsShipped : ClassTable → Cluster → CodeWorld → List ℕ → List Shipment → Type 0

@@ -11,6 +11,7 @@ use ec_carrying::carrying::carry;
 use ec_cluster::cluster::Cluster;
 use ec_cluster::objects::set_flag;
 use ec_parcels::mover::classes::ClassNumbers;
+use ec_wire::write;
 use ec_world::value::{NodeNo, Oid};
 use std::alloc::{AllocError, Global};
 
@@ -30,6 +31,7 @@ pub(crate) fn bring(
     ensures went { OnOk result (WentTo to cluster.old.whereabouts cluster.new.whereabouts) }
 {
     for shipment in shipments {
+        let bytes = write(alloc, &shipment.parcel)?;
         carry(
             cluster,
             alloc,
@@ -37,7 +39,7 @@ pub(crate) fn bring(
             shipment.from,
             to,
             &shipment.parcel,
-            shipment.bytes.as_slice(),
+            bytes.as_slice(),
         )?;
     }
     Ok(())

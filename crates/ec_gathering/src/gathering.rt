@@ -1,9 +1,9 @@
 //! A group of objects goes to where another object is.
-ghost use Rattle.std.specs.Prelude.{◌≡◌, IfNone, IfOk, IfSome};
+ghost use Rattle.std.specs.Prelude.{ℕ, IfNone, IfOk, IfSome, OnOk, Option};
 ghost use Rattle.ec_cluster.specs.Cluster.{CodeWorld};
 ghost use Rattle.ec_cluster.specs.Whereabouts.{FewMoves, MovedOnce};
 ghost use Rattle.ec_code.specs.Typing.{Declared};
-ghost use Rattle.ec_gathering.specs.Gathers.{Gathers, LacksFor, MayGather, MayGatherSome};
+ghost use Rattle.ec_gathering.specs.Gathers.{FitsFor, Gathers, GathersSome, LacksFor, MayGather, MayGatherSome};
 
 use crate::bringing::{bring, flag};
 use crate::lacking::lack_of;
@@ -15,12 +15,35 @@ use ec_world::room::Lack;
 use ec_world::value::Oid;
 use std::alloc::{AllocError, Global};
 
-/// The first step of a move of a group between nodes: its objects, and the activations on them, go to where the target is, in one parcel
-/// from each other node that has a member, and one of them is fixed then, if any. Where the target's node lacks room for all of them
-/// together, that is told, blocks before text, and nothing has changed.
+/// What the node where the target is lacks for a group to go there, blocks before text; nothing where it has room for all of the group
+/// together. Nothing changes.
 ///
-/// The error is want of memory, 2^32 processes or more, parcels that want 2^64 blocks or more or texts of 2^32 bytes or more together, or
-/// that the node has 2^32 - 1 texts or references. What the nodes keep is then left open.
+/// The error is want of memory, 2^32 processes or more, or parcels that want 2^64 blocks or more or texts of 2^32 bytes or more together.
+pub fn lack_for_group(
+    system: &System,
+    alloc: Global,
+    numbers: &ClassNumbers,
+    members: &[Oid],
+    target: Oid,
+) -> Result<Option<Lack>, AllocError>
+    requires may { (fixes : Option ℕ) × MayGatherSome system.now numbers.now members.now target fixes }
+    ensures none { IfOk result (λ r. IfNone r ((d : Declared) (w : CodeWorld) (fixes : Option ℕ) →
+        MayGather d system.now w numbers.now members.now target fixes → FitsFor system.now.cluster w members.now target fixes)) }
+    ensures some { IfOk result (λ r. IfSome r (λ lack. (d : Declared) (w : CodeWorld) (fixes : Option ℕ) →
+        MayGather d system.now w numbers.now members.now target fixes → LacksFor system.now.cluster w members.now target fixes lack)) }
+{
+    // With the numbers looked at, each is known to be that of one class alone.
+    let _made = numbers.made();
+    let node = node_of(&system.cluster, target);
+    let shipments = ship(system, alloc, numbers, members, node)?;
+    lack_of(&system.cluster, alloc, numbers, shipments.as_slice(), node)
+}
+
+/// A group goes between nodes: its objects, and the activations on them, go to where the target is, in one parcel from each other node that
+/// has a member, and one of them is fixed then, if any. There is room for them.
+///
+/// The error is want of memory, 2^32 processes or more, or that the node has 2^32 - 1 texts or references. What the nodes keep is then left
+/// open.
 pub fn gather(
     system: &mut System,
     alloc: Global,
@@ -28,26 +51,25 @@ pub fn gather(
     members: &[Oid],
     target: Oid,
     fixes: Option<Oid>,
-) -> Result<Option<Lack>, AllocError>
-    requires may { MayGatherSome system.old numbers.now members.now target fixes }
+) -> Result<(), AllocError>
+    requires room { GathersSome system.old numbers.now members.now target fixes }
     requires few { FewMoves system.old.cluster.whereabouts }
-    ensures done { IfOk result (λ r. IfNone r ((d : Declared) (w : CodeWorld) →
-        MayGather d system.old w numbers.now members.now target fixes → Gathers system.old system.new w members.now target fixes)) }
-    ensures full { IfOk result (λ r. IfSome r (λ lack. (system.new ≡ system.old) × ((d : Declared) (w : CodeWorld) →
-        MayGather d system.old w numbers.now members.now target fixes →
-        LacksFor system.old.cluster w members.now target fixes lack))) }
-    ensures moves { IfOk result (λ r. MovedOnce system.old.cluster.whereabouts system.new.cluster.whereabouts) }
+    ensures done { OnOk result ((d : Declared) (w : CodeWorld) → MayGather d system.old w numbers.now members.now target fixes →
+        Gathers system.old system.new w members.now target fixes) }
+    ensures moves { OnOk result (MovedOnce system.old.cluster.whereabouts system.new.cluster.whereabouts) }
 {
     // With the numbers looked at, each is known to be that of one class alone.
     let _made = numbers.made();
     let to = node_of(&system.cluster, target);
     let shipments = ship(system, alloc, numbers, members, to)?;
-    let shipments = shipments.as_slice();
-    let lack = lack_of(&system.cluster, alloc, numbers, shipments, to)?;
-    if lack.is_none() {
-        flag(&mut system.cluster, fixes, false);
-        bring(&mut system.cluster, alloc, numbers, shipments, to)?;
-        flag(&mut system.cluster, fixes, true);
-    }
-    Ok(lack)
+    flag(&mut system.cluster, fixes, false);
+    bring(
+        &mut system.cluster,
+        alloc,
+        numbers,
+        shipments.as_slice(),
+        to,
+    )?;
+    flag(&mut system.cluster, fixes, true);
+    Ok(())
 }

@@ -1,5 +1,6 @@
 //! What a node lacks for the parcels of a group is what the world lacks there once the group has come.
 ghost use Rattle.ec_gathering.specs.GatheringRoomLaws.{GatheringFits, GatheringIsFull, GoneIsSuch, MovesAreFullSo, MovesFit, OperatorMovesAreSuch};
+ghost use Rattle.ec_gathering.specs.GatheringRoomLaws.{ParcelsFit};
 
 /// Where the node to which a group goes lacks room for its parcels, it lacks as much for the world after, and each other node has room.
 pub fn gathering_is_full()
@@ -9,6 +10,11 @@ pub fn gathering_is_full()
 /// Where the node to which a group goes has room for its parcels, each node has room for the world after.
 pub fn gathering_fits()
     ensures { GatheringFits }
+{}
+
+/// Where each node has room for the world after a group has come, the node to which it goes has room for its parcels.
+pub fn parcels_fit()
+    ensures { ParcelsFit }
 {}
 
 /// An action that moves objects changes no objects, but for whether one of them is fixed, and no constants.

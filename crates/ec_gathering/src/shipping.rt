@@ -1,4 +1,4 @@
-//! The parcels in which a group goes, and their bytes.
+//! The parcels in which a group goes.
 ghost use Rattle.std.specs.Prelude.{ℕ, length, IfOk, IsFalse, IsTrue, Option};
 ghost use Rattle.ec_cluster.specs.Cluster.{CodeWorld};
 ghost use Rattle.ec_code.specs.Typing.{Declared};
@@ -10,16 +10,14 @@ use ec_cluster::system::System;
 use ec_packing::packing::pack;
 use ec_parcels::mover::classes::ClassNumbers;
 use ec_wire::parcel::Parcel;
-use ec_wire::write;
 use ec_world::value::{NodeNo, Oid};
 use std::alloc::{AllocError, Global};
 
-/// A parcel on its way: the node from which it goes, what was packed there, and its bytes.
+/// A parcel on its way: the node from which it goes, and what was packed there.
 #[derive(Drop)]
 pub(crate) struct Shipment {
     pub from: NodeNo,
     pub parcel: Parcel,
-    pub bytes: Vec<u8>,
 }
 
 /// The parcels of a group that goes to a node: one from each other node that has a member, in the order of the nodes. Changes nothing.
@@ -41,12 +39,9 @@ pub(crate) fn ship(
         let from = k as NodeNo;
         if from != to && has_some_at(&system.cluster, members, from) {
             let parcel = pack(system, alloc, numbers, members, from)?;
-            let bytes = write(alloc, &parcel)?;
-            shipments.push(Shipment {
-                from,
-                parcel,
-                bytes,
-            })?;
+            // With its contents looked at, they are known to keep the rules of the wire form.
+            let _contents = parcel.contents();
+            shipments.push(Shipment { from, parcel })?;
         }
     }
     Ok(shipments)

@@ -1,20 +1,16 @@
--- What is asked for between turns is asked for, and a group that is to move may go.
+-- A group that is asked for between turns may go.
 use Rattle.std.proofs.Common.{ℕ, List, Option}
 use Rattle.ec_cluster.specs.Cluster.{CodeWorld}
 use Rattle.ec_code.specs.Typing.{Declared}
 use Rattle.ec_gathering.proofs.Moves.{asks_may}
 use Rattle.ec_gathering.specs.Gathers.{LetsGo, MayGather}
-use Rattle.ec_network.specs.Acts.{AsksBetween, AsksOfEach, Begins}
+use Rattle.ec_network.specs.Acts.{AsksBetween, Begins}
 use Rattle.ec_parcels.specs.Classes.{ClassTable}
 use Rattle.ec_cluster.specs.declared.system.System.{System}
-use Rattle.ec_world.specs.declared.doing.Doing.{Doing}
 use Rattle.ec_world.specs.declared.doing.Doing.TheVariants.{Moves}
 use Rattle.ec_world.specs.declared.stop.Who.{Who}
 
 module _ (d : Declared) (s : System) (w : CodeWorld) (table : ClassTable) (who : Who) where
-  abbrev pub asks_of_each : (doing : Doing) → AsksBetween d s w table who doing → AsksOfEach d s w who doing
-  asks_of_each doing b = record { goes = b.begins.goes; below = b.below; top = b.top; asks = b.asks }
-
   lets_go : Begins d s w table → LetsGo d s w table
   lets_go b = record {
     runs = b.goes.runs;

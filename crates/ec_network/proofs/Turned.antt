@@ -9,7 +9,9 @@ use Rattle.ec_code.specs.Typing.{Declared}
 use Rattle.ec_code.specs.declared.activation.CodeActivation.{CodeActivation}
 use Rattle.ec_code.specs.declared.code.Parts.{Parts}
 use Rattle.ec_acts.proofs.Stepping.{unchanged}
-use Rattle.ec_network.specs.Acts.{Begins, Goes, HasActed, WasIdle}
+use Rattle.ec_network.specs.Acts.{AsksBetween, AsksFor, Begins, Goes, HasActed, MadeMove, RefusedIn, WasIdle, as_doing}
+use Rattle.ec_network.specs.declared.kernel.acts.ActError.{ActError}
+use Rattle.ec_network.specs.declared.kernel.acts.Move.{Move}
 use Rattle.ec_packing.proofs.Worlds.{turn_between}
 use Rattle.ec_packing.specs.Between.{IsBetween}
 use Rattle.ec_parcels.specs.Classes.{ClassTable}
@@ -28,6 +30,24 @@ use Rattle.ec_world.specs.World.{Action, GoOn, act_on, stack_at}
 pub begins : (d : Declared) (s : System) (w : CodeWorld) (table : ClassTable) → Stands d s w → HasNumbers s table → Begins d s w table
 begins d s w table stands numbers =
     record { goes = stands.works.goes; between = stands.between; few = stands.works.few; table_is = numbers }
+
+-- where a move is asked for, it is asked for between turns, and once it is made, or refused, the action is
+module _ (d : Declared) (old middle : System) (w : CodeWorld) (p : ℕ) (move : Move) (asks : AsksFor old middle w p move) where
+  pub asked_between : (table : ClassTable) → Stands d old w → HasNumbers old table →
+      AsksBetween d middle w table move.who (as_doing move)
+  asked_between table stands numbers =
+      subst (λ (x : System). AsksBetween d x w table move.who (as_doing move)) (sym asks.same)
+      (record { begins = begins d old w table stands numbers; below = asks.below; top = asks.top; asks = asks.asks })
+
+  pub made_acted : (new : System) → MadeMove d middle new w move → HasActed d old new w p
+  made_acted new made =
+      subst (λ q. HasActed d old new w q) asks.process
+      (subst (λ (x : System). HasActed d x new w move.who.process) asks.same made.acted)
+
+  pub made_refused : (new : System) (e : ActError) → RefusedIn middle new w move.who.process e → RefusedIn old new w p e
+  made_refused new e refused =
+      subst (λ q. RefusedIn old new w q e) asks.process
+      (subst (λ (x : System). RefusedIn x new w move.who.process e) asks.same refused)
 
 -- where nothing was to be done, that is the action
 pub idle_acted : (d : Declared) (old new : System) (w : CodeWorld) (p : ℕ) → Goes d old w → WasIdle old new w p → HasActed d old new w p
@@ -116,22 +136,14 @@ no_turn s w p none =
       nothing = ap (λ (x : CodeWorld). gone_on s x p) still ∙ without_top s w p none;
     }
 
--- what is known of a system once it has acted, or had nothing to do
+-- what is known of a system once it has acted
 module _ (d : Declared) (old middle : System) (w : CodeWorld) (p : ℕ) (s : Stands d old w) where
   pub some_acted : HasActed d old middle w p → WorksInSome middle
   some_acted acted = (d, (Action code_meaning w p, works_acted d old middle w p s.works acted))
 
-  pub some_idle : WasIdle old middle w p → WorksInSome middle
-  some_idle idle = some_acted (idle_acted d old middle w p s.works.goes idle)
-
-  -- a turn whose action is done
+  -- the turn
   pub turn_acted : (new : System) (steps : ℕ) → HasActed d old middle w p → IsSome (top_of (stack_at w p)) →
       ((e : Declared) (x : CodeWorld) → Works e middle x → AfterAction e middle new x p steps) → TurnOf d old new w p steps
   turn_acted new steps acted top after =
       turn_of d old middle new w p steps s acted
       (after d (Action code_meaning w p) (works_acted d old middle w p s.works acted)) top
-
-  -- a turn with no action to be done
-  pub turn_idle : (new : System) (steps : ℕ) → WasIdle old middle w p → IsSome (top_of (stack_at w p)) →
-      ((e : Declared) (x : CodeWorld) → Works e middle x → AfterAction e middle new x p steps) → TurnOf d old new w p steps
-  turn_idle new steps idle top after = turn_acted new steps (idle_acted d old middle w p s.works.goes idle) top after

@@ -9,10 +9,13 @@ use Rattle.ec_code.specs.Typing.{Declared}
 use Rattle.ec_code.specs.declared.activation.CodeActivation.{CodeActivation}
 use Rattle.ec_fullness.specs.Room.{RoomFor}
 use Rattle.ec_code.specs.Idle.{IdleWorld}
+use Rattle.ec_gathering.specs.Gathers.{FitsFor, Gathers}
+use Rattle.ec_gathering.specs.Settled.{StopDone, stop_done}
 use Rattle.ec_network.specs.declared.kernel.acts.ActError.{ActError}
 use Rattle.ec_network.specs.declared.kernel.acts.ActError.TheVariants as refusal
 use Rattle.ec_network.specs.declared.kernel.acts.Acted.{Acted}
 use Rattle.ec_network.specs.declared.kernel.acts.Acted.TheVariants as came
+use Rattle.ec_network.specs.declared.kernel.acts.Move.{Move}
 use Rattle.ec_packing.specs.Between.{IsBetween}
 use Rattle.ec_parcels.specs.Classes.{ClassTable}
 use Rattle.ec_world.specs.declared.room.Lack.{Lack}
@@ -24,6 +27,7 @@ use Rattle.ec_cluster.specs.declared.system.System.{System}
 use Rattle.ec_generate.specs.Limits.{CarriesFew}
 use Rattle.ec_world.specs.World.{Action}
 use Rattle.ec_world.specs.declared.doing.Doing.{Doing}
+use Rattle.ec_world.specs.declared.doing.Doing.TheVariants.{Moves}
 use Rattle.ec_world.specs.declared.stop.Who.{Who}
 
 -- A system runs a world as runs of its program come to it: activations whose action is done wait where code goes on, the program's own
@@ -34,6 +38,10 @@ pub record Goes (d : Declared) (s : System) (w : CodeWorld) : Type 0 where
   pub typed : IsTypedOnce s.cluster.parts
   pub places : HasPlaces s.cluster w
 
+-- some world
+abbrev pub GoesInSome : System → Type 0
+GoesInSome s = (d : Declared) × ((w : CodeWorld) × Goes d s w)
+
 -- The world is one between turns, in which an action begins: what goes of it to other nodes has a spelling on the wire, by the numbers of
 -- the program's classes.
 pub record Begins (d : Declared) (s : System) (w : CodeWorld) (table : ClassTable) : Type 0 where
@@ -41,10 +49,6 @@ pub record Begins (d : Declared) (s : System) (w : CodeWorld) (table : ClassTabl
   pub between : IsBetween s.cluster.parts w
   pub few : CarriesFew s.cluster.parts
   pub table_is : IsTableOf s.cluster.parts table
-
--- some world
-abbrev pub BeginsSome : System → ClassTable → Type 0
-BeginsSome s table = (d : Declared) × ((w : CodeWorld) × Begins d s w table)
 
 -- in a world an activation asks for this
 pub record AsksOfEach (d : Declared) (s : System) (w : CodeWorld) (who : Who) (doing : Doing) : Type 0 where
@@ -72,6 +76,18 @@ pub record AsksBetween (d : Declared) (s : System) (w : CodeWorld) (table : Clas
 abbrev pub AsksBetweenSome : System → ClassTable → Who → Doing → Type 0
 AsksBetweenSome s table who doing = (d : Declared) × ((w : CodeWorld) × AsksBetween d s w table who doing)
 
+-- ---- moves
+
+-- what an action comes to that asks for a move
+abbrev pub as_doing : Move → Doing
+as_doing move = Moves move.members move.target move.fixes
+
+-- each node has room for a move that is asked for, as each world tells
+abbrev pub FitsInEach : System → ClassTable → Move → Type 0
+FitsInEach s table move =
+    (d : Declared) (w : CodeWorld) → AsksBetween d s w table move.who (as_doing move) →
+    FitsFor s.cluster w move.members move.target move.fixes
+
 -- ---- what an action comes to
 
 -- The system goes on with the world that the table of actions makes, and each node has the texts that it had and those of this world.
@@ -84,9 +100,28 @@ pub record WasIdle (old new : System) (w : CodeWorld) (p : ℕ) : Type 0 where
   pub same : new ≡ old
   pub nothing : Action code_meaning w p ≡ w
 
+-- it asks for a move, which is still to be made, and nothing has changed
+pub record AsksFor (old new : System) (w : CodeWorld) (p : ℕ) (move : Move) : Type 0 where
+  pub same : new ≡ old
+  pub process : move.who.process ≡ p
+  pub below : List CodeActivation
+  pub top : CodeActivation
+  pub asks : Asks w below top move.who (as_doing move)
+
 abbrev pub ActedIn : Declared → System → System → CodeWorld → ℕ → Acted → Type 0
 ActedIn d old new w p came.Idle = WasIdle old new w p
+ActedIn d old new w p (came.Asks move) = AsksFor old new w p move
 ActedIn d old new w p came.Done = HasActed d old new w p
+
+-- The move is made: the stop has been done first, and then the group has gone from the world in which it is.
+pub record MadeMove (d : Declared) (old new : System) (w : CodeWorld) (move : Move) : Type 0 where
+  pub below : List CodeActivation
+  pub top : CodeActivation
+  pub asks : Asks w below top move.who (as_doing move)
+  pub middle : System
+  pub settled : StopDone old middle w move.who.process below top
+  pub gathered : Gathers middle new (stop_done w move.who.process below top) move.members move.target move.fixes
+  pub acted : HasActed d old new w move.who.process
 
 -- A node is full, as the world tells that would come, and nothing has changed.
 pub record FoundFull (old new : System) (w w' : CodeWorld) (lack : Lack) : Type 0 where

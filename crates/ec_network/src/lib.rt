@@ -3,7 +3,7 @@
 //!
 //! | module | what it has |
 //! |---|---|
-//! | `kernel` | the action of a process is done to nodes, moves of objects among these; or a node is full, and nothing has changed |
+//! | `kernel` | the action of a process is done to nodes, or it asks for a move, which is then made; or a node is full, and nothing has changed |
 //! | `laws` | what moves there: a group goes together, a fixed object goes by its own refix alone, and a node never does |
 //! | `nodes_running` | a turn: the kernel's action, and then native code up to the next stop; a move by the operator; what is seen |
 //!

@@ -13,7 +13,7 @@ use crate::nodes_running::seeing::seen;
 use crate::nodes_running::turns::{Did, NetError};
 use ec_cluster::seen::seen::Seen;
 use ec_cluster::system::System;
-use ec_gathering::gathering::gather;
+use ec_gathering::gathering::{gather, lack_for_group};
 use ec_parcels::mover::classes::ClassNumbers;
 use ec_world::sight::Sees;
 use ec_world::value::{NodeNo, Oid, Oids};
@@ -42,8 +42,12 @@ pub(crate) fn shift(
         Ok(None) => return Ok(Did::Idle),
         Err(e) => return Err(NetError::Memory(e)),
     };
-    match gather(system, alloc, numbers, members.as_slice(), k + 1, None) {
-        Ok(None) => Ok(Did::Moved),
+    let members = members.as_slice();
+    match lack_for_group(system, alloc, numbers, members, k + 1) {
+        Ok(None) => match gather(system, alloc, numbers, members, k + 1, None) {
+            Ok(()) => Ok(Did::Moved),
+            Err(e) => Err(NetError::Memory(e)),
+        },
         Ok(Some(lack)) => Err(NetError::Full(lack)),
         Err(e) => Err(NetError::Memory(e)),
     }

@@ -3,12 +3,14 @@ ghost use Rattle.std.specs.Prelude.{◌≡◌, IfErr, IfOk};
 ghost use Rattle.ec_cluster.specs.Cluster.{CodeWorld};
 ghost use Rattle.ec_cluster.specs.Whereabouts.{FewMoves, MovedOnce};
 ghost use Rattle.ec_code.specs.Typing.{Declared};
+ghost use Rattle.ec_network.specs.Acts as acts;
 ghost use Rattle.ec_network.specs.Running.{AfterAction};
 ghost use Rattle.ec_network.specs.Standing.{HasNumbers, Stands, StandsInSome, Works, WorksInSome};
 ghost use Rattle.ec_network.specs.Turns.{RefusedIn, TurnedIn};
 
 use crate::kernel::acting::act;
 use crate::kernel::acts::{ActError, Acted};
+use crate::kernel::moving::make_move;
 use crate::nodes_running::running::{run_on, top_of};
 use crate::nodes_running::turns::{Did, NetError};
 use ec_cluster::system::System;
@@ -38,15 +40,37 @@ pub(crate) fn turn(
     let Some(_headings) = top_of(system, p) else {
         return Ok(Did::Idle);
     };
-    match act(system, alloc, numbers, p) {
-        Ok(Acted::Idle) => Ok(Did::Acted {
-            steps: run_if_done(system, machines, p),
-        }),
-        Ok(Acted::Done) => Ok(Did::Acted {
+    match action(system, numbers, alloc, p) {
+        Ok(()) => Ok(Did::Acted {
             steps: run_if_done(system, machines, p),
         }),
         Err(ActError::Full(lack)) => Err(NetError::Full(lack)),
         Err(ActError::Memory(e)) => Err(NetError::Memory(e)),
+    }
+}
+
+/// The action of the stop at which a process rests; where it asks for a move, this is made. Where a node lacks room, that is told, and
+/// nothing has changed.
+fn action(
+    system: &mut System,
+    numbers: &ClassNumbers,
+    alloc: Global,
+    p: Pid,
+) -> Result<(), ActError>
+    requires stands { StandsInSome system.old }
+    requires numbers { HasNumbers system.old numbers.now }
+    requires few { FewMoves system.old.cluster.whereabouts }
+    ensures acted { IfOk result (λ u. (d : Declared) (w : CodeWorld) → Stands d system.old w →
+        acts.HasActed d system.old system.new w p) }
+    ensures refused { IfErr result (λ e. (d : Declared) (w : CodeWorld) → Stands d system.old w →
+        acts.RefusedIn system.old system.new w p e) }
+    ensures moves { IfOk result (λ u. MovedOnce system.old.cluster.whereabouts system.new.cluster.whereabouts) }
+{
+    match act(system, alloc, p) {
+        Ok(Acted::Idle) => Ok(()),
+        Ok(Acted::Asks(asked)) => make_move(system, alloc, numbers, &asked),
+        Ok(Acted::Done) => Ok(()),
+        Err(e) => Err(e),
     }
 }
 

@@ -5,7 +5,7 @@ use Rattle.std.specs.Prelude.{length}
 use Rattle.ec_carrying.specs.Carrying.{CanCarry, IsCarriedIn}
 use Rattle.ec_cluster.proofs.Going.{none_went, still_few, went_on}
 use Rattle.ec_cluster.specs.declared.cluster.Cluster.{Cluster}
-use Rattle.ec_gathering.proofs.Coming.{IsBringing, all_brought, next_bringing, next_can, next_spelled, none_came}
+use Rattle.ec_gathering.proofs.Coming.{IsBringing, all_brought, next_bringing, next_can, none_came}
 use Rattle.ec_gathering.proofs.Lists.{item_there}
 use Rattle.ec_gathering.proofs.bringing.bring.Goals as goal
 use Rattle.ec_gathering.specs.declared.shipping.Shipment.{Shipment}
@@ -21,13 +21,8 @@ loop-shipment-init c = (
 
 pub carry-requires-clause-spelled : goal.carry-requires-clause-spelled
 carry-requires-clause-spelled c =
-    let all = c.requires.brings in
-    let i : ℕ = c.loop-shipment.shipment-index in
     let b : Shipment = c.shipment-item.result in
-    subst (λ bytes. IsWire b.parcel bytes) (sym c.as_slice.ensures.value)
-    (next_spelled all.declared c.args.numbers.now c.args.cluster.now c.loop-shipment.cluster all.world all.members c.args.to
-    c.args.shipments.now i b (item_there c.args.shipments.now i b c.loop-shipment-test.true c.shipment-item.is)
-    (c.loop-shipment.invariant.0 all.declared all.world all.members all.brings))
+    subst (λ bytes. IsWire b.parcel bytes) (sym c.as_slice.ensures.value) c.in_ok-bytes.ensures
 
 pub carry-requires-clause-can : goal.carry-requires-clause-can
 carry-requires-clause-can c =
@@ -37,7 +32,7 @@ carry-requires-clause-can c =
     subst (λ bytes. CanCarry c.args.numbers.now c.loop-shipment.cluster b.from c.args.to bytes) (sym c.as_slice.ensures.value)
     (next_can all.declared c.args.numbers.now c.args.cluster.now c.loop-shipment.cluster all.world all.members c.args.to
     c.args.shipments.now i b (item_there c.args.shipments.now i b c.loop-shipment-test.true c.shipment-item.is)
-    (c.loop-shipment.invariant.0 all.declared all.world all.members all.brings))
+    (c.loop-shipment.invariant.0 all.declared all.world all.members all.brings) c.in_ok-bytes.bytes.items c.in_ok-bytes.ensures)
 
 pub carry-requires-clause-few : goal.carry-requires-clause-few
 carry-requires-clause-few c =
@@ -55,7 +50,7 @@ loop-shipment-preserved c = (
       let i : ℕ = c.loop-shipment.shipment-index in
       let b : Shipment = c.shipment-item.result in
       next_bringing d table old now w members to bs i b (item_there bs i b c.loop-shipment-test.true c.shipment-item.is)
-      (c.loop-shipment.invariant.0 d w members brings) next brings.sends.shows
+      (c.loop-shipment.invariant.0 d w members brings) next brings.sends.shows c.in_ok-bytes.bytes.items c.in_ok-bytes.ensures
       (λ (x : Contents) carries. c.in_ok-carry.ensures.carried d w members x
       (subst (λ bytes. IsCarriedIn table now b.from to bytes d w members x) (sym c.as_slice.ensures.value) carries)),
   went_on c.args.to c.args.cluster.now.whereabouts c.loop-shipment.cluster.whereabouts c.carry.new.cluster.whereabouts

@@ -6,10 +6,12 @@ use Rattle.ec_gathering.proofs.Sending.{can_pack, one_with, one_without}
 use Rattle.ec_gathering.proofs.shipping.ship.Goals as goal
 use Rattle.ec_gathering.proofs.shipping.ship.Goals.{else-from-to, else-from-to-via-else-from-to}
 use Rattle.ec_gathering.proofs.shipping.ship.Goals.{else-from-to-via-then-from-to+else-has_some_at}
-use Rattle.ec_gathering.proofs.shipping.ship.Goals.{then-from-to+then-has_some_at+in_ok-parcel+in_ok-bytes+in_ok-push}
+use Rattle.ec_gathering.proofs.shipping.ship.Goals.{then-from-to+then-has_some_at+in_ok-parcel+in_ok-push}
 use Rattle.ec_gathering.specs.Shipping.{AreShipped, IsShipped}
 use Rattle.ec_gathering.specs.declared.shipping.Shipment.{Shipment}
 use Rattle.ec_parcels.specs.Classes.{ClassTable}
+use Rattle.ec_wire.specs.WireForm.{KeepsRules}
+use Rattle.ec_wire.specs.declared.parcel.Contents.{Contents}
 use Rattle.ec_world.specs.Group.{Has}
 
 pub pack-requires : goal.pack-requires
@@ -36,11 +38,14 @@ loop-k-preserved c = λ d w target fixes may.
     AreShipped table cluster w members to (k + 1) c.loop-k.shipments.items = λ none.
     one_without table cluster w members to k c.loop-k.shipments.items none before in
     elim c.if-from-to.branch [
-      | then-from-to+then-has_some_at+in_ok-parcel+in_ok-bytes+in_ok-push v ↦
+      | then-from-to+then-has_some_at+in_ok-parcel+in_ok-push v ↦
           let packed = v.in_ok-parcel.ensures d w
           (can_pack d c.args.system.now w table members target fixes may k low) in
-          let b : Shipment = record { from = k; parcel = v.in_ok-parcel.parcel; bytes = v.in_ok-bytes.bytes } in
-          let shipped : IsShipped table cluster w members b = record { packs = packed; spelled = v.in_ok-bytes.ensures } in
+          let b : Shipment = record { from = k; parcel = v.in_ok-parcel.parcel } in
+          let shipped : IsShipped table cluster w members b = record {
+            packs = packed;
+            rules = subst (λ (x : Contents). KeepsRules x) v.contents-contents.ensures.same v.contents-contents.ensures.rules;
+          } in
           subst (λ (bs : List Shipment). AreShipped table cluster w members to (k + 1) bs)
           (sym v.in_ok-push.ensures.items ∙ sym (ap (λ (bs : Vec Shipment Global). bs.items) v.shipments-is))
           (one_with table cluster w members to k c.loop-k.shipments.items b v.if-from-to.true refl shipped before)

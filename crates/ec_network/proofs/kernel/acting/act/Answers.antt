@@ -8,19 +8,18 @@ use Rattle.ec_network.specs.Acts.{RefusedIn}
 
 pub asked-requires-clause-readable : goal.asked-requires-clause-readable
 asked-requires-clause-readable c =
-    let begins = c.requires.begins in
-    let goes = begins.1.1.goes in
+    let goes = c.requires.goes.1.1 in
     record {
-      bare = bare_shown c.args.system.now.cluster begins.1.0 goes.runs.mirrors.shows goes.idle.objects;
+      bare = bare_shown c.args.system.now.cluster c.requires.goes.1.0 goes.runs.mirrors.shows goes.idle.objects;
       typed = goes.typed;
     }
 
 pub returns-in-Ok-Some-clause-refused : goal.returns-in-Ok-Some-clause-refused
 returns-in-Ok-Some-clause-refused c = if_err c.perform.result
-    (λ e refused d w begins.
-    let x = some_told _ c.in-Ok-Some.field-0 c.in-Ok-Some.asked c.in-Ok-Some.field-0-is c.in-Ok-Some.ensures.some d w begins.goes.runs in
+    (λ e refused d w goes.
+    let x = some_told _ c.in-Ok-Some.field-0 c.in-Ok-Some.asked c.in-Ok-Some.field-0-is c.in-Ok-Some.ensures.some d w goes.runs in
     subst (λ q. RefusedIn c.args.system.now c.perform.new.system w q e) x.0
-    (refused d w (record { begins = begins; below = x.1.0; top = x.1.1.0; asks = x.1.1.1 })))
+    (refused d w (record { goes = goes; below = x.1.0; top = x.1.1.0; asks = x.1.1.1 })))
     c.perform.ensures.refused
 
 pub returns-in-Ok-None-clause-moves : goal.returns-in-Ok-None-clause-moves
