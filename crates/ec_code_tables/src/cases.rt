@@ -1,4 +1,4 @@
-//! Cases, one behind the other, line by line.
+//! Cases, one behind the other.
 use crate::error::Fault;
 use crate::running::{Setting, run_code};
 use crate::tables::print_code;
@@ -14,6 +14,7 @@ use ec_report::answer::Answer;
 use ec_world::node::{Kind, NodeSpec};
 use std::alloc::{AllocError, Global};
 use std::mem::ManuallyDrop;
+use std::num::ParseIntError;
 
 /// How many entries a run does at most, where a case doesn't say it.
 const BUDGET: u64 = 1_000_000;
@@ -26,202 +27,179 @@ pub struct Tally {
     pub failed: u32,
 }
 
-/// What a line of text belongs to.
+/// A case: its name, and its source with the core.
 #[derive(Clone, Copy)]
-enum Part {
-    Source,
-    Schedule,
-    Report,
-}
-
-/// A case: its name and its source; and, where it is run, the nodes, the schedule, the budget, and what should come of it:
-/// the status and the report.
-#[derive(Drop)]
 struct Case<'a> {
     name: &'a str,
-    source: Vec<u8>,
-    nodes: Vec<NodeSpec>,
-    schedule: Vec<u8>,
-    budget: u64,
-    status: Option<u8>,
-    report: Vec<u8>,
-
-    /// What the next line of text belongs to.
-    part: Part,
+    source: &'a [u8],
+    checked: &'a Checked,
 }
 
-/// Tells of each case of a text.
+/// Tells of each case of a text: prints its code, or runs it where it says what should come of that.
 pub fn tell_all(rt: &impl Print, alloc: Global, text: &str) -> Result<Tally, Fault> {
     let mut tally = Tally {
         printed: 0,
         passed: 0,
         failed: 0,
     };
-    let mut last = None;
-    for line in text.lines() {
-        if let Some(name) = line.strip_prefix("case ") {
-            tell_if(rt, alloc, &last, &mut tally)?;
-            last = Some(Case::new(alloc, name));
-        } else if let Some(case) = &mut last {
-            case.take(alloc, line)?;
+    let (_, cases) = text.split_once("\ncase ").unwrap_or((text, ""));
+    for case in cases.split("\ncase ") {
+        match tell(rt, alloc, case)? {
+            None => tally.printed = tally.printed.saturating_add(1),
+            Some(true) => tally.passed = tally.passed.saturating_add(1),
+            Some(false) => tally.failed = tally.failed.saturating_add(1),
         }
     }
-    tell_if(rt, alloc, &last, &mut tally)?;
     Ok(tally)
 }
 
-fn tell_if(
-    rt: &impl Print,
-    alloc: Global,
-    case: &Option<Case>,
-    tally: &mut Tally,
-) -> Result<(), Fault> {
-    match case {
-        Some(case) => case.tell(rt, alloc, tally),
-        None => Ok(()),
-    }
-}
-
-impl<'a> Case<'a> {
-    fn new(alloc: Global, name: &'a str) -> Case<'a> {
-        Case {
-            name,
-            source: Vec::new(alloc),
-            nodes: Vec::new(alloc),
-            schedule: Vec::new(alloc),
-            budget: BUDGET,
-            status: None,
-            report: Vec::new(alloc),
-            part: Part::Source,
-        }
-    }
-
-    /// Takes a line.
-    fn take(&mut self, alloc: Global, line: &str) -> Result<(), Fault> {
-        if line.is_empty() || line.starts_with('#') {
-            return Ok(());
-        }
-        if let Some(text) = line.strip_prefix('|') {
-            return self.add(text);
-        }
-        if let Some(names) = line.strip_prefix("nodes ") {
-            for name in names.split(' ') {
-                self.nodes.push(node(alloc, name)?)?;
-            }
-            self.part = Part::Schedule;
-        } else if let Some(number) = line.strip_prefix("budget ") {
-            self.budget = number.parse()?;
-        } else if let Some(number) = line.strip_prefix("status ") {
-            self.status = Some(number.parse()?);
-            self.part = Part::Report;
-        } else {
-            return Err(Fault::NoSuchLine(String::from_str(alloc, line)?));
-        }
-        Ok(())
-    }
-
-    /// Adds a line of text.
-    fn add(&mut self, text: &str) -> Result<(), Fault> {
-        match self.part {
-            Part::Source => push_line(&mut self.source, text),
-            Part::Schedule => push_line(&mut self.schedule, text),
-            Part::Report => push_line(&mut self.report, text),
-        }
-    }
-
-    /// Prints the code, or runs it where the case says what should come of it.
-    fn tell(&self, rt: &impl Print, alloc: Global, tally: &mut Tally) -> Result<(), Fault> {
-        let checked = ManuallyDrop::new(accepted(alloc, &self.source)?);
-        let Some(status) = self.status else {
-            println!(rt; "case {}", self.name)?;
-            tally.printed = tally.printed.saturating_add(1);
-            return self.print(rt, alloc, &checked);
-        };
-        if self.comes_out(rt, alloc, &checked, status)? {
-            tally.passed = tally.passed.saturating_add(1);
-            println!(rt; "ok {}", self.name)?;
-        } else {
-            tally.failed = tally.failed.saturating_add(1);
-        }
-        Ok(())
-    }
-
-    /// The program of its source.
-    fn program<'b>(
-        &'b self,
-        alloc: Global,
-        checked: &'b Checked,
-    ) -> Result<Program<'b>, AllocError> {
-        Program::new(alloc, &self.source, &checked.table, &checked.core)
-    }
-
-    /// Prints the code.
-    fn print(&self, rt: &impl Print, alloc: Global, checked: &Checked) -> Result<(), Fault> {
-        let program = ManuallyDrop::new(self.program(alloc, checked)?);
-        let parts = ManuallyDrop::new(lower(alloc, &program)?);
-        print_code(rt, alloc, &parts)
-    }
-
-    /// Whether its runs by meaning and by code come to this status and to its report; else it prints what they come to.
-    fn comes_out(
-        &self,
-        rt: &impl Print,
-        alloc: Global,
-        checked: &Checked,
-        status: u8,
-    ) -> Result<bool, Fault> {
-        let schedule = read_schedule(alloc, &self.schedule)?;
-        let nodes = self.nodes.as_slice();
-        if nodes.is_empty() || nodes.len() > 64 {
-            return Err(Fault::NoNodes);
-        }
-        let program = self.program(alloc, checked)?;
-        let meant = run(alloc, program, nodes, &schedule, self.budget)?;
-        let is_meant = self.is_as(rt, "meaning", status, &meant)?;
-        let setting = Setting {
-            nodes,
-            schedule: &schedule,
-            budget: self.budget,
-        };
-        let program = ManuallyDrop::new(self.program(alloc, checked)?);
-        let came = run_code(alloc, &program, setting)?;
-        Ok(self.is_as(rt, "code", status, &came)? && is_meant)
-    }
-
-    /// Whether an answer has this status and its report; else it prints the answer.
-    fn is_as(&self, rt: &impl Print, by: &str, status: u8, came: &Answer) -> Result<bool, Fault> {
-        let code = came.status.code();
-        if code == status && came.text.as_slice() == self.report.as_slice() {
-            return Ok(true);
-        }
-        println!(rt; "{}: by its {by} status {code}, and", self.name)?;
-        match str::from_utf8(&came.text) {
-            Ok(text) => println!(rt; "{text}")?,
-            Err(_) => println!(rt; "(no text)")?,
-        }
-        Ok(false)
-    }
-}
-
-/// A node of this name. No line of a report but its own tells more of it.
-fn node(alloc: Global, name: &str) -> Result<NodeSpec, AllocError> {
-    Ok(NodeSpec {
-        name: Seq::from_vec(Vec::from_slice(alloc, name.as_bytes())?),
-        kind: Kind::Riscv,
-        blocks: 0,
-        text: 0,
-    })
-}
-
-fn push_line(text: &mut Vec<u8>, line: &str) -> Result<(), Fault> {
-    text.extend_from_slice(line.as_bytes())?;
-    text.push(b'\n')?;
-    Ok(())
+/// Tells of a case; where it is run, whether its runs come out as it says.
+fn tell(rt: &impl Print, alloc: Global, text: &str) -> Result<Option<bool>, Fault> {
+    let (head, run) = text.split_once("\nnodes ").unwrap_or((text, ""));
+    let (name, lines) = first_line(head);
+    let source = text_of(alloc, lines)?;
+    let checked = ManuallyDrop::new(accepted(alloc, &source)?);
+    let case = Case {
+        name,
+        source: &source,
+        checked: &checked,
+    };
+    let Some((setting, wanted)) = run.split_once("\nstatus ") else {
+        case.print(rt, alloc)?;
+        return Ok(None);
+    };
+    Ok(Some(case.comes_out(rt, alloc, setting, wanted)?))
 }
 
 /// The core of a source, with its table of types.
 fn accepted(alloc: Global, text: &[u8]) -> Result<Checked, Fault> {
-    let tokens = lex(alloc, text)?;
+    let tokens = ManuallyDrop::new(lex(alloc, text)?);
     let tree = parse(alloc, tokens.as_slice())?;
     Ok(check(alloc, tree)?)
+}
+
+impl<'a> Case<'a> {
+    /// The program of its source.
+    fn program(&self, alloc: Global) -> Result<Program<'a>, AllocError> {
+        Program::new(alloc, self.source, &self.checked.table, &self.checked.core)
+    }
+
+    /// Prints the code.
+    fn print(&self, rt: &impl Print, alloc: Global) -> Result<(), Fault> {
+        let program = ManuallyDrop::new(self.program(alloc)?);
+        let parts = ManuallyDrop::new(lower(alloc, &program)?);
+        println!(rt; "case {}", self.name)?;
+        print_code(rt, alloc, &parts)
+    }
+
+    /// Whether its runs come to the wanted status and report: by these nodes, with a budget, and the lines of a schedule.
+    fn comes_out(
+        &self,
+        rt: &impl Print,
+        alloc: Global,
+        setting: &str,
+        wanted: &str,
+    ) -> Result<bool, Fault> {
+        let (names, rest) = first_line(setting);
+        let (budget, lines) = budget_of(rest)?;
+        let nodes = ManuallyDrop::new(nodes_of(alloc, names)?);
+        let schedule = read_schedule(alloc, &text_of(alloc, lines)?)?;
+        let setting = Setting {
+            nodes: &nodes,
+            schedule: &schedule,
+            budget,
+        };
+        let (status, lines) = first_line(wanted);
+        let report = text_of(alloc, lines)?;
+        self.runs_to(rt, alloc, setting, status.parse()?, &report)
+    }
+
+    /// Whether its runs by meaning and by code come to a status and a report; an answer that is another one is printed.
+    fn runs_to(
+        &self,
+        rt: &impl Print,
+        alloc: Global,
+        setting: Setting,
+        status: u8,
+        report: &[u8],
+    ) -> Result<bool, Fault> {
+        let Setting {
+            nodes,
+            schedule,
+            budget,
+        } = setting;
+        if nodes.is_empty() || nodes.len() > 64 {
+            return Err(Fault::NoNodes);
+        }
+        let meant = run(alloc, self.program(alloc)?, nodes, schedule, budget)?;
+        let program = ManuallyDrop::new(self.program(alloc)?);
+        let came = run_code(alloc, &program, setting)?;
+        let mut is_well = true;
+        for (by, answer) in [("meaning", &meant), ("code", &came)] {
+            if answer.status.code() != status || answer.text.as_slice() != report {
+                is_well = false;
+                self.print_answer(rt, by, answer)?;
+            }
+        }
+        if is_well {
+            println!(rt; "ok {}", self.name)?;
+        }
+        Ok(is_well)
+    }
+
+    /// Prints an answer that isn't the wanted one.
+    fn print_answer(&self, rt: &impl Print, by: &str, answer: &Answer) -> Result<(), Fault> {
+        println!(rt;
+            "{}: by its {by} status {}, and",
+            self.name,
+            answer.status.code()
+        )?;
+        match str::from_utf8(&answer.text) {
+            Ok(text) => println!(rt; "{text}")?,
+            Err(_) => println!(rt; "(no text)")?,
+        }
+        Ok(())
+    }
+}
+
+/// The first line of a text, and what stands behind it.
+fn first_line(text: &str) -> (&str, &str) {
+    text.split_once('\n').unwrap_or((text, ""))
+}
+
+/// The bytes for which lines behind `|` stand.
+fn text_of(alloc: Global, lines: &str) -> Result<Vec<u8>, Fault> {
+    let mut text = Vec::new(alloc);
+    for line in lines.lines() {
+        if let Some(line) = line.strip_prefix('|') {
+            text.extend_from_slice(line.as_bytes())?;
+            text.push(b'\n')?;
+        } else if !line.is_empty() {
+            return Err(Fault::NoSuchLine(String::from_str(alloc, line)?));
+        }
+    }
+    Ok(text)
+}
+
+/// The budget, and the lines behind it.
+fn budget_of(lines: &str) -> Result<(u64, &str), ParseIntError> {
+    let Some(text) = lines.strip_prefix("budget ") else {
+        return Ok((BUDGET, lines));
+    };
+    let (number, rest) = first_line(text);
+    Ok((number.parse()?, rest))
+}
+
+/// Nodes of these names. No line of a report but their own tells more of them.
+fn nodes_of(alloc: Global, names: &str) -> Result<Vec<NodeSpec>, AllocError> {
+    let mut nodes = Vec::new(alloc);
+    for name in names.split(' ') {
+        nodes.push(NodeSpec {
+            name: Seq::from_vec(Vec::from_slice(alloc, name.as_bytes())?),
+            kind: Kind::Riscv,
+            blocks: 0,
+            text: 0,
+        })?;
+    }
+    Ok(nodes)
 }

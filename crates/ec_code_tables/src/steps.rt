@@ -56,12 +56,6 @@ fn test_text(alloc: Global, test: Test, wanted: bool) -> Result<String, AllocErr
     }
 }
 
-/// A variable that gets what is so written.
-fn gets(alloc: Global, to: Variable, what: &str) -> Result<String, AllocError> {
-    let to = variable_text(alloc, to)?;
-    format!(in alloc; "{to} <- {what}")
-}
-
 /// What a stop is, its operands, whether its action is on the own object, and where what it gives goes, and of which type
 /// that is.
 fn rest_text(alloc: Global, row: &StopRow) -> Result<String, AllocError> {
@@ -83,40 +77,52 @@ fn rest_text(alloc: Global, row: &StopRow) -> Result<String, AllocError> {
     Ok(text)
 }
 
-/// A step.
-pub fn step_text(alloc: Global, op: &Op) -> Result<String, AllocError> {
+/// The variable that a step gives a value.
+fn target_of(op: &Op) -> Option<Variable> {
     match op {
-        Op::Copy { to, from } => gets(alloc, *to, operand_text(alloc, *from)?.as_str()),
-        Op::Literal { to, index } => {
-            gets(alloc, *to, format!(in alloc; "literal {index}")?.as_str())
-        }
-        Op::Itself { to } => gets(alloc, *to, "self"),
-        Op::Field { to, field } => gets(alloc, *to, format!(in alloc; "field {field}")?.as_str()),
+        Op::Copy { to, .. }
+        | Op::Literal { to, .. }
+        | Op::Itself { to }
+        | Op::Field { to, .. }
+        | Op::Constant { to, .. }
+        | Op::Compute { to, .. }
+        | Op::Decide { to, .. } => Some(*to),
+        _ => None,
+    }
+}
+
+/// What a step gives its variable, or does where it has none.
+fn deed_text(alloc: Global, op: &Op) -> Result<String, AllocError> {
+    match op {
+        Op::Copy { from, .. } => operand_text(alloc, *from),
+        Op::Literal { index, .. } => format!(in alloc; "literal {index}"),
+        Op::Itself { .. } => String::from_str(alloc, "self"),
+        Op::Field { field, .. } => format!(in alloc; "field {field}"),
         Op::SetField { field, from } => {
-            let from = operand_text(alloc, *from)?;
-            format!(in alloc; "field {field} <- {from}")
+            format!(in alloc; "field {field} <- {}", operand_text(alloc, *from)?)
         }
-        Op::Constant { to, index } => {
-            gets(alloc, *to, format!(in alloc; "constant {index}")?.as_str())
-        }
+        Op::Constant { index, .. } => format!(in alloc; "constant {index}"),
         Op::Compute {
             how,
-            to,
             left,
             right,
-        } => {
-            let what = pair_text(alloc, *left, sign_of(*how), *right)?;
-            gets(alloc, *to, what.as_str())
-        }
-        Op::Decide { to, test, wanted } => {
-            gets(alloc, *to, test_text(alloc, *test, *wanted)?.as_str())
-        }
+            ..
+        } => pair_text(alloc, *left, sign_of(*how), *right),
+        Op::Decide { test, wanted, .. } => test_text(alloc, *test, *wanted),
         Op::Branch { test, wanted, over } => {
-            let test = test_text(alloc, *test, *wanted)?;
-            format!(in alloc; "if {test} over {over}")
+            format!(in alloc; "if {} over {over}", test_text(alloc, *test, *wanted)?)
         }
         Op::Jump { over } => format!(in alloc; "over {over}"),
         Op::Again { back } => format!(in alloc; "back {back}"),
         Op::Rest(row) => rest_text(alloc, row),
+    }
+}
+
+/// A step.
+pub fn step_text(alloc: Global, op: &Op) -> Result<String, AllocError> {
+    let deed = deed_text(alloc, op)?;
+    match target_of(op) {
+        Some(to) => format!(in alloc; "{} <- {deed}", variable_text(alloc, to)?),
+        None => Ok(deed),
     }
 }
