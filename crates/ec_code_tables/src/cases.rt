@@ -71,11 +71,12 @@ fn tell(rt: &impl Print, alloc: Global, text: &str) -> Result<Option<bool>, Faul
     Ok(Some(case.comes_out(rt, alloc, setting, wanted)?))
 }
 
-/// The core of a source, with its table of types.
+/// The core of a source, with its table of types. Each error is made the case's own before `?`: behind one that is copied, it would be proved
+/// here how a tree and a core are dropped.
 fn accepted(alloc: Global, text: &[u8]) -> Result<Checked, Fault> {
-    let tokens = ManuallyDrop::new(lex(alloc, text)?);
-    let tree = parse(alloc, tokens.as_slice())?;
-    Ok(check(alloc, tree)?)
+    let tokens = ManuallyDrop::new(lex(alloc, text).map_err(Fault::NoTokens)?);
+    let tree = parse(alloc, tokens.as_slice()).map_err(Fault::NoTree)?;
+    check(alloc, tree).map_err(Fault::Refused)
 }
 
 impl<'a> Case<'a> {

@@ -22,13 +22,13 @@ pub enum Fault {
     NoNodes,
     /// The source has no tokens.
     #[error(transparent)]
-    NoTokens(#[from] LexError),
+    NoTokens(LexError),
     /// Its tokens have no tree.
     #[error(transparent)]
-    NoTree(#[from] ParseError),
+    NoTree(ParseError),
     /// The tree breaks a static rule.
     #[error("the source isn't accepted: {0:?}")]
-    Refused(#[from] CheckError),
+    Refused(CheckError),
     /// The schedule is none.
     #[error(transparent)]
     NoSchedule(#[from] ScheduleError),

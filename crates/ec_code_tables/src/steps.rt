@@ -1,80 +1,65 @@
 //! Steps of code as text.
-use crate::stops::stop_text;
+use crate::stops::push_stop;
 use ec_code::code::{Arithmetic, Op, Operand, StopRow, Test, Variable};
-use std::alloc::{AllocError, Global};
+use std::alloc::AllocError;
 
-/// `v0` is a named variable, `t0` a temporary.
-pub fn variable_text(alloc: Global, x: Variable) -> Result<String, AllocError> {
+/// Adds a number.
+pub fn push_number(n: i64, text: &mut String) -> Result<(), AllocError> {
+    write!(text, "{n}")
+}
+
+/// Adds a variable: `v0` is a named one, `t0` a temporary.
+pub fn push_variable(x: Variable, text: &mut String) -> Result<(), AllocError> {
+    let (sign, n) = match x {
+        Variable::Named(n) => ('v', n),
+        Variable::Temporary(d) => ('t', d),
+    };
+    text.push(sign)?;
+    push_number(i64::from(n), text)
+}
+
+fn push_operand(x: Operand, text: &mut String) -> Result<(), AllocError> {
     match x {
-        Variable::Named(n) => format!(in alloc; "v{n}"),
-        Variable::Temporary(d) => format!(in alloc; "t{d}"),
+        Operand::Of(x) => push_variable(x, text),
+        Operand::Number(z) => push_number(i64::from(z), text),
+        Operand::Truth(true) => text.push_str("true"),
+        Operand::Truth(false) => text.push_str("false"),
+        Operand::Nil => text.push_str("nil"),
     }
 }
 
-fn operand_text(alloc: Global, x: Operand) -> Result<String, AllocError> {
-    match x {
-        Operand::Of(x) => variable_text(alloc, x),
-        Operand::Number(z) => format!(in alloc; "{z}"),
-        Operand::Truth(b) => format!(in alloc; "{b}"),
-        Operand::Nil => format!(in alloc; "nil"),
-    }
-}
-
-/// Two operands with a sign between them.
-fn pair_text(alloc: Global, x: Operand, sign: &str, y: Operand) -> Result<String, AllocError> {
-    let x = operand_text(alloc, x)?;
-    let y = operand_text(alloc, y)?;
-    format!(in alloc; "{x} {sign} {y}")
+/// Adds two operands with a sign between them.
+fn push_pair(x: Operand, sign: &str, y: Operand, text: &mut String) -> Result<(), AllocError> {
+    push_operand(x, text)?;
+    text.push_str(sign)?;
+    push_operand(y, text)
 }
 
 fn sign_of(how: Arithmetic) -> &'static str {
     match how {
-        Arithmetic::Sum => "+",
-        Arithmetic::Difference => "-",
-        Arithmetic::Product => "*",
-        Arithmetic::Quotient => "/",
-        Arithmetic::Remainder => "#",
+        Arithmetic::Sum => " + ",
+        Arithmetic::Difference => " - ",
+        Arithmetic::Product => " * ",
+        Arithmetic::Quotient => " / ",
+        Arithmetic::Remainder => " # ",
     }
 }
 
-/// A test, and `not` before it where it is wanted to come out false.
-fn test_text(alloc: Global, test: Test, wanted: bool) -> Result<String, AllocError> {
-    let text = match test {
+/// Adds a test, with `not` before it where it is wanted to come out false.
+fn push_test(test: Test, wanted: bool, text: &mut String) -> Result<(), AllocError> {
+    if !wanted {
+        text.push_str("not ")?;
+    }
+    match test {
         Test::Holds(x) => {
-            let x = operand_text(alloc, x)?;
-            format!(in alloc; "holds {x}")?
+            text.push_str("holds ")?;
+            push_operand(x, text)
         }
-        Test::Same(x, y) => pair_text(alloc, x, "=", y)?,
-        Test::Less(x, y) => pair_text(alloc, x, "<", y)?,
-        Test::LessEqual(x, y) => pair_text(alloc, x, "<=", y)?,
-        Test::Divides(x, y) => pair_text(alloc, x, "divides by", y)?,
-    };
-    if wanted {
-        Ok(text)
-    } else {
-        format!(in alloc; "not {text}")
+        Test::Same(x, y) => push_pair(x, " = ", y, text),
+        Test::Less(x, y) => push_pair(x, " < ", y, text),
+        Test::LessEqual(x, y) => push_pair(x, " <= ", y, text),
+        Test::Divides(x, y) => push_pair(x, " divides by ", y, text),
     }
-}
-
-/// What a stop is, its operands, whether its action is on the own object, and where what it gives goes, and of which type
-/// that is.
-fn rest_text(alloc: Global, row: &StopRow) -> Result<String, AllocError> {
-    let mut text = stop_text(alloc, row.stop)?;
-    for x in row.operands.as_slice() {
-        text.push(' ')?;
-        text.push_str(variable_text(alloc, *x)?.as_str())?;
-    }
-    if row.on_itself {
-        text.push_str(" on self")?;
-    }
-    if let Some(into) = row.into {
-        text.push_str(" into ")?;
-        text.push_str(variable_text(alloc, into)?.as_str())?;
-    }
-    if let Some(of) = row.gives {
-        text.push_str(format!(in alloc; " of {of:?}")?.as_str())?;
-    }
-    Ok(text)
 }
 
 /// The variable that a step gives a value.
@@ -91,38 +76,77 @@ fn target_of(op: &Op) -> Option<Variable> {
     }
 }
 
-/// What a step gives its variable, or does where it has none.
-fn deed_text(alloc: Global, op: &Op) -> Result<String, AllocError> {
+/// The word with which the rest of a step begins, and the number behind it.
+fn word_of(op: &Op) -> (&'static str, Option<u32>) {
     match op {
-        Op::Copy { from, .. } => operand_text(alloc, *from),
-        Op::Literal { index, .. } => format!(in alloc; "literal {index}"),
-        Op::Itself { .. } => String::from_str(alloc, "self"),
-        Op::Field { field, .. } => format!(in alloc; "field {field}"),
-        Op::SetField { field, from } => {
-            format!(in alloc; "field {field} <- {}", operand_text(alloc, *from)?)
+        Op::Literal { index, .. } => ("literal ", Some(*index)),
+        Op::Itself { .. } => ("self", None),
+        Op::Field { field, .. } => ("field ", Some(*field)),
+        Op::SetField { field, .. } => ("field ", Some(*field)),
+        Op::Constant { index, .. } => ("constant ", Some(*index)),
+        Op::Branch { .. } => ("if ", None),
+        Op::Jump { over } => ("over ", Some(*over)),
+        Op::Again { back } => ("back ", Some(*back)),
+        _ => ("", None),
+    }
+}
+
+/// Adds what a step reads, tests or does behind its word.
+fn push_rest(op: &Op, text: &mut String) -> Result<(), AllocError> {
+    match op {
+        Op::Copy { from, .. } => push_operand(*from, text),
+        Op::SetField { from, .. } => {
+            text.push_str(" <- ")?;
+            push_operand(*from, text)
         }
-        Op::Constant { index, .. } => format!(in alloc; "constant {index}"),
         Op::Compute {
             how,
             left,
             right,
             ..
-        } => pair_text(alloc, *left, sign_of(*how), *right),
-        Op::Decide { test, wanted, .. } => test_text(alloc, *test, *wanted),
+        } => push_pair(*left, sign_of(*how), *right, text),
+        Op::Decide { test, wanted, .. } => push_test(*test, *wanted, text),
         Op::Branch { test, wanted, over } => {
-            format!(in alloc; "if {} over {over}", test_text(alloc, *test, *wanted)?)
+            push_test(*test, *wanted, text)?;
+            text.push_str(" over ")?;
+            push_number(i64::from(*over), text)
         }
-        Op::Jump { over } => format!(in alloc; "over {over}"),
-        Op::Again { back } => format!(in alloc; "back {back}"),
-        Op::Rest(row) => rest_text(alloc, row),
+        Op::Rest(row) => push_row(row, text),
+        _ => Ok(()),
     }
 }
 
-/// A step.
-pub fn step_text(alloc: Global, op: &Op) -> Result<String, AllocError> {
-    let deed = deed_text(alloc, op)?;
-    match target_of(op) {
-        Some(to) => format!(in alloc; "{} <- {deed}", variable_text(alloc, to)?),
-        None => Ok(deed),
+/// Adds a step.
+pub fn push_step(op: &Op, text: &mut String) -> Result<(), AllocError> {
+    if let Some(to) = target_of(op) {
+        push_variable(to, text)?;
+        text.push_str(" <- ")?;
     }
+    let (word, number) = word_of(op);
+    text.push_str(word)?;
+    if let Some(number) = number {
+        push_number(i64::from(number), text)?;
+    }
+    push_rest(op, text)
+}
+
+/// Adds a stop, its operands, whether its action is on the own object, and where what it gives goes, and of which type that
+/// is.
+fn push_row(row: &StopRow, text: &mut String) -> Result<(), AllocError> {
+    push_stop(row.stop, text)?;
+    for x in row.operands.as_slice() {
+        text.push(' ')?;
+        push_variable(*x, text)?;
+    }
+    if row.on_itself {
+        text.push_str(" on self")?;
+    }
+    if let Some(into) = row.into {
+        text.push_str(" into ")?;
+        push_variable(into, text)?;
+    }
+    if let Some(of) = row.gives {
+        write!(text, " of {of:?}")?;
+    }
+    Ok(())
 }

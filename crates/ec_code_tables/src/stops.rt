@@ -1,9 +1,10 @@
 //! Stops as text.
+use crate::steps::push_number;
 use ec_world::stop::{Order, Stop};
-use std::alloc::{AllocError, Global};
+use std::alloc::AllocError;
 
 /// What a stop is called.
-fn words_of(stop: Stop) -> &'static str {
+fn word_of(stop: Stop) -> &'static str {
     match stop {
         Stop::Entry => "entry",
         Stop::Invoke { .. } => "invoke",
@@ -37,7 +38,7 @@ fn words_of(stop: Stop) -> &'static str {
     }
 }
 
-/// The line on which a stop may fail.
+/// The line on which a process fails there.
 fn line_of(stop: Stop) -> Option<u32> {
     match stop {
         Stop::Invoke { line, .. }
@@ -59,46 +60,51 @@ fn line_of(stop: Stop) -> Option<u32> {
     }
 }
 
-/// What stands behind a stop's text: a colon, where its action has operands or gives something.
-fn end_of(stop: Stop) -> &'static str {
+/// Whether no operands and no result are told behind a colon.
+fn is_bare(stop: Stop) -> bool {
     match stop {
-        Stop::Entry | Stop::Return { .. } | Stop::Wait { .. } | Stop::Signal { .. } => "",
-        Stop::LoopTop | Stop::End | Stop::Fail { .. } => "",
-        _ => ":",
+        Stop::Entry | Stop::Return { .. } | Stop::Wait { .. } | Stop::Signal { .. } => true,
+        Stop::LoopTop | Stop::End | Stop::Fail { .. } => true,
+        _ => false,
     }
 }
 
 fn sign_of(order: Order) -> &'static str {
     match order {
-        Order::Less => "<",
-        Order::LessEqual => "<=",
-        Order::More => ">",
-        Order::MoreEqual => ">=",
+        Order::Less => " <",
+        Order::LessEqual => " <=",
+        Order::More => " >",
+        Order::MoreEqual => " >=",
     }
 }
 
-/// What is told of a stop beside its line.
-fn detail_of(alloc: Global, stop: Stop) -> Result<String, AllocError> {
+/// Adds what is told of a stop beside its line.
+fn push_detail(stop: Stop, text: &mut String) -> Result<(), AllocError> {
     match stop {
-        Stop::Invoke { name, .. } => format!(in alloc; " {name}"),
-        Stop::New { class } => format!(in alloc; " {class:?}"),
-        Stop::NewVector { of, .. } => format!(in alloc; " {} {:?}", of.inner, of.of),
-        Stop::Compare { order } => format!(in alloc; " {}", sign_of(order)),
-        Stop::Global { index } => format!(in alloc; " {index}"),
-        Stop::View { to, .. } => format!(in alloc; " {to:?}"),
-        Stop::Wait { condition } | Stop::Signal { condition } => format!(in alloc; " {condition}"),
-        Stop::Fail { cause, .. } => format!(in alloc; " {cause:?}"),
-        _ => Ok(String::new(alloc)),
+        Stop::Invoke { name: n, .. }
+        | Stop::Global { index: n }
+        | Stop::Wait { condition: n }
+        | Stop::Signal { condition: n } => write!(text, " {n}"),
+        Stop::New { class } => write!(text, " {class:?}"),
+        Stop::NewVector { of, .. } => write!(text, " {} {:?}", of.inner, of.of),
+        Stop::Compare { order } => text.push_str(sign_of(order)),
+        Stop::View { to, .. } => write!(text, " {to:?}"),
+        Stop::Fail { cause, .. } => write!(text, " {cause:?}"),
+        _ => Ok(()),
     }
 }
 
-/// What a stop is, with its numbers and, where it may fail, its line.
-pub fn stop_text(alloc: Global, stop: Stop) -> Result<String, AllocError> {
-    let word = words_of(stop);
-    let detail = detail_of(alloc, stop)?;
-    let end = end_of(stop);
-    match line_of(stop) {
-        Some(line) => format!(in alloc; "{word}{detail} at {line}{end}"),
-        None => format!(in alloc; "{word}{detail}{end}"),
+/// Adds what a stop is, with its numbers and, where it may fail, its line.
+pub fn push_stop(stop: Stop, text: &mut String) -> Result<(), AllocError> {
+    text.push_str(word_of(stop))?;
+    push_detail(stop, text)?;
+    if let Some(line) = line_of(stop) {
+        text.push_str(" at ")?;
+        push_number(i64::from(line), text)?;
+    }
+    if is_bare(stop) {
+        Ok(())
+    } else {
+        text.push(':')
     }
 }

@@ -1,6 +1,6 @@
 //! The code of a program as a table: its literals, and the lines of each operation.
 use crate::error::Fault;
-use crate::steps::{step_text, variable_text};
+use crate::steps::{push_step, push_variable};
 use ec_code::code::{Line, Live, Parts};
 use std::alloc::{AllocError, Global};
 
@@ -22,21 +22,21 @@ pub fn print_code(rt: &impl Print, alloc: Global, parts: &Parts) -> Result<(), F
 /// Prints each line: its place, the variables that are live there, and its step.
 fn print_lines(rt: &impl Print, alloc: Global, lines: &[Line]) -> Result<(), Fault> {
     for (place, line) in lines.iter().enumerate() {
-        let live = live_text(alloc, line.live.as_slice())?;
-        let step = step_text(alloc, &line.op)?;
-        println!(rt; "{place} [{live}] {step}")?;
+        let mut text = String::new(alloc);
+        push_live(line.live.as_slice(), &mut text)?;
+        push_step(&line.op, &mut text)?;
+        println!(rt; "{place} {text}")?;
     }
     Ok(())
 }
 
-/// The names of live variables.
-fn live_text(alloc: Global, live: &[Live]) -> Result<String, AllocError> {
-    let mut text = String::new(alloc);
+/// Adds the names of live variables.
+fn push_live(live: &[Live], text: &mut String) -> Result<(), AllocError> {
+    let mut before = "[";
     for one in live {
-        if !text.is_empty() {
-            text.push(' ')?;
-        }
-        text.push_str(variable_text(alloc, one.variable)?.as_str())?;
+        text.push_str(before)?;
+        push_variable(one.variable, text)?;
+        before = " ";
     }
-    Ok(text)
+    text.push_str(if live.is_empty() { "[] " } else { "] " })
 }
