@@ -1,4 +1,4 @@
-//! Cases, one behind the other, line by line.
+//! Cases, one behind the other.
 use crate::compile::compile_text;
 use crate::error::Fault;
 use crate::run::{Ran, run_loop};
@@ -13,12 +13,14 @@ pub struct Tally {
     pub failed: u32,
 }
 
-/// A case: its name, its source, and the number that its loop should come to.
-#[derive(Drop)]
+/// A case on a kind of machine: their names, the source, and the number that its loop should come to.
+#[derive(Clone, Copy)]
 struct Case<'a> {
     name: &'a str,
-    source: Vec<u8>,
-    result: Option<i32>,
+    source: &'a [u8],
+    wanted: i32,
+    kind: Kind,
+    on: &'a str,
 }
 
 /// Tells of each case of a text.
@@ -27,112 +29,94 @@ pub fn tell_all(rt: &impl Print, alloc: Global, text: &str) -> Result<Tally, Fau
         passed: 0,
         failed: 0,
     };
-    let mut last = None;
-    for line in text.lines() {
-        if let Some(name) = line.strip_prefix("case ") {
-            tell_if(rt, alloc, &last, &mut tally)?;
-            last = Some(Case::new(alloc, name));
-        } else if let Some(case) = &mut last {
-            case.take(alloc, line)?;
-        }
+    let (_, cases) = text.split_once("\ncase ").unwrap_or((text, ""));
+    for case in cases.split("\ncase ") {
+        tell(rt, alloc, case, &mut tally)?;
     }
-    tell_if(rt, alloc, &last, &mut tally)?;
     Ok(tally)
 }
 
-fn tell_if(
-    rt: &impl Print,
-    alloc: Global,
-    case: &Option<Case>,
-    tally: &mut Tally,
-) -> Result<(), Fault> {
-    match case {
-        Some(case) => case.tell(rt, alloc, tally),
-        None => Ok(()),
+/// Runs the loop of a case on each kind of machine, and tells what comes of it.
+fn tell(rt: &impl Print, alloc: Global, text: &str, tally: &mut Tally) -> Result<(), Fault> {
+    let Some((head, number)) = text.split_once("\nresult ") else {
+        return Err(Fault::NoResult(String::from_str(alloc, text)?));
+    };
+    let (name, lines) = first_line(head);
+    let (number, _) = first_line(number);
+    let source = text_of(alloc, lines)?;
+    let wanted = number.parse()?;
+    for (kind, on) in [(Kind::Riscv, "riscv"), (Kind::Mips, "mips")] {
+        let case = Case {
+            name,
+            source: &source,
+            wanted,
+            kind,
+            on,
+        };
+        case.tell(rt, alloc, tally)?;
+    }
+    Ok(())
+}
+
+impl<'a> Case<'a> {
+    /// Runs its loop, also with fewer registers as homes, and tells what comes of it.
+    fn tell(&self, rt: &impl Print, alloc: Global, tally: &mut Tally) -> Result<(), Fault> {
+        let Case {
+            name,
+            wanted,
+            on,
+            ..
+        } = *self;
+        let ran = self.run(alloc, None)?;
+        let count = ran.instructions;
+        if tally.takes(ran.result == Some(wanted)) {
+            println!(rt; "{name} {on} {count} ok")?;
+        } else {
+            println!(rt; "{name} {on} {count}, and came to {:?}", ran.result)?;
+        }
+        for registers in [0, 3] {
+            let few = self.run(alloc, Some(registers))?;
+            if !tally.takes(few.result == Some(wanted)) {
+                println!(rt; "{name} {on} with {registers} registers comes out otherwise")?;
+            }
+        }
+        Ok(())
+    }
+
+    /// Runs its loop; where a number is given, with at most so many registers as homes.
+    fn run(&self, alloc: Global, registers: Option<u32>) -> Result<Ran, Fault> {
+        let made = ManuallyDrop::new(compile_text(alloc, self.kind, registers, self.source)?);
+        Ok(run_loop(alloc, self.kind, &made)?)
     }
 }
 
 impl Tally {
-    /// Counts a run.
-    fn count(&mut self, is_passed: bool) {
+    /// Counts a run, and says whether it came out.
+    fn takes(&mut self, is_passed: bool) -> bool {
         if is_passed {
             self.passed = self.passed.saturating_add(1);
         } else {
             self.failed = self.failed.saturating_add(1);
         }
+        is_passed
     }
 }
 
-impl<'a> Case<'a> {
-    fn new(alloc: Global, name: &'a str) -> Case<'a> {
-        Case {
-            name,
-            source: Vec::new(alloc),
-            result: None,
-        }
-    }
+/// The first line of a text, and what stands behind it.
+fn first_line(text: &str) -> (&str, &str) {
+    text.split_once('\n').unwrap_or((text, ""))
+}
 
-    /// Takes a line.
-    fn take(&mut self, alloc: Global, line: &str) -> Result<(), Fault> {
-        if line.is_empty() || line.starts_with('#') {
-            return Ok(());
-        }
-        if let Some(text) = line.strip_prefix('|') {
-            self.source.extend_from_slice(text.as_bytes())?;
-            self.source.push(b'\n')?;
-        } else if let Some(number) = line.strip_prefix("result ") {
-            self.result = Some(number.parse()?);
-        } else {
+/// The bytes for which lines behind `|` stand.
+fn text_of(alloc: Global, lines: &str) -> Result<Vec<u8>, Fault> {
+    let mut text = Vec::new(alloc);
+    for line in lines.lines() {
+        if let Some(line) = line.strip_prefix('|') {
+            text.extend_from_slice(line.as_bytes())?;
+            text.push(b'\n')?;
+        } else if !line.is_empty() {
             return Err(Fault::NoSuchLine(String::from_str(alloc, line)?));
         }
-        Ok(())
     }
-
-    /// Runs its loop on each kind of machine, and tells what comes of it.
-    fn tell(&self, rt: &impl Print, alloc: Global, tally: &mut Tally) -> Result<(), Fault> {
-        let Some(wanted) = self.result else {
-            return Err(Fault::NoResult(String::from_str(alloc, self.name)?));
-        };
-        for (kind, name) in [(Kind::Riscv, "riscv"), (Kind::Mips, "mips")] {
-            let ran = self.run(alloc, kind, None)?;
-            self.tell_run(rt, name, ran, wanted)?;
-            tally.count(ran.result == Some(wanted));
-            for registers in [0, 3] {
-                let few = self.run(alloc, kind, Some(registers))?;
-                tally.count(few.result == Some(wanted));
-                if few.result != Some(wanted) {
-                    println!(rt;
-                        "{} {name} with {registers} registers comes out otherwise",
-                        self.name
-                    )?;
-                }
-            }
-        }
-        Ok(())
-    }
-
-    /// Runs its loop on a kind of machine; where a number is given, with at most so many registers as homes.
-    fn run(&self, alloc: Global, kind: Kind, registers: Option<u32>) -> Result<Ran, Fault> {
-        let made = ManuallyDrop::new(compile_text(alloc, kind, registers, &self.source)?);
-        Ok(run_loop(alloc, kind, &made)?)
-    }
-
-    /// Tells of a run.
-    fn tell_run(&self, rt: &impl Print, kind: &str, ran: Ran, wanted: i32) -> Result<(), Fault> {
-        let Ran {
-            instructions,
-            result,
-        } = ran;
-        match result {
-            Some(came) if came == wanted => {
-                println!(rt; "{} {kind} {instructions} ok", self.name)?;
-            }
-            Some(came) => println!(rt; "{} {kind} {instructions}, and came to {came}", self.name)?,
-            None => println!(rt;
-                "{} {kind} {instructions}, and came to no number",
-                self.name
-            )?,
-        }
-        Ok(())
-    }
+    Ok(text)
 }
