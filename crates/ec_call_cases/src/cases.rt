@@ -1,17 +1,10 @@
 //! The cases of a table, one behind the other.
-use crate::error::{Fault, TableError};
-use crate::trial::{Outcome, Trial};
+use crate::error::Fault;
+use crate::text::first_line;
+use crate::trial::{Outcome, come};
 use ec_tool::network::Network;
 use std::alloc::{AllocError, Global};
 use std::mem::ManuallyDrop;
-use std::{io, mem};
-
-/// A line of a table, with its number from 1.
-#[derive(Clone, Copy)]
-struct Row<'a> {
-    number: usize,
-    text: &'a str,
-}
 
 /// How many calls came out as the table says, and how many didn't.
 #[derive(Clone, Copy)]
@@ -20,219 +13,184 @@ pub struct Tally {
     pub failed: u32,
 }
 
-/// The lines so far of the case that is read, and how many calls came out so far.
+/// How the calls came out so far, and what the last one left, which the next one takes over.
 #[derive(Drop)]
-struct Case<'a> {
-    head: Option<Row<'a>>,
-
-    /// What is called: the lines before the first case, then its own.
-    settings: Vec<Row<'a>>,
-
-    /// How many lines stand before the first case.
-    common: usize,
-
-    /// What stands for the holes in its lines, for a call each.
-    fills: Vec<Row<'a>>,
-
-    /// What should come of these calls.
-    wanted: Vec<Row<'a>>,
-
-    /// How many calls had failed when it began.
-    failed_before: u32,
+struct Calls {
     tally: Tally,
-
-    /// What the last call left, which the next one takes over.
     net: ManuallyDrop<Network>,
 }
 
+/// What is called, and what should come of it, with holes in both.
+#[derive(Clone, Copy)]
+struct Case<'a> {
+    name: &'a str,
+    setting: &'a str,
+    wanted: &'a str,
+}
+
+/// How a line of a table begins that isn't empty.
+const BEGINNINGS: [&str; 15] = [
+    "#", "|", ">", "case ", "call", "file ", "read ", "put ", "status ", "times ", "bytes ", "= ",
+    "with", "each ", "from ",
+];
+
 /// Makes the calls of a table, and tells of each case.
-pub fn run_table(rt: &impl Print, alloc: Global, table: &str) -> Result<Tally, TableError> {
-    let mut case = Case::new(alloc);
-    for (index, text) in table.lines().enumerate() {
-        let number = index.saturating_add(1);
-        case.take(rt, alloc, Row { number, text })?;
+pub fn run_table(rt: &impl Print, alloc: Global, table: &str) -> Result<Tally, Fault> {
+    let mut calls = Calls {
+        tally: Tally {
+            passed: 0,
+            failed: 0,
+        },
+        net: ManuallyDrop::new(Network::empty()),
+    };
+    see_lines(table)?;
+    let (common, cases) = table.split_once("\ncase ").unwrap_or((table, ""));
+    for case in cases.split("\ncase ") {
+        let (name, lines) = first_line(case);
+        let failed = calls.tally.failed;
+        if let Err(fault) = calls.make(rt, alloc, name, common, lines) {
+            println!(rt; "in case {name}:")?;
+            return Err(fault);
+        }
+        if calls.tally.failed == failed {
+            println!(rt; "ok {name}")?;
+        }
     }
-    case.end(rt, alloc)?;
-    Ok(case.tally)
+    Ok(calls.tally)
 }
 
-impl<'a> Case<'a> {
-    fn new(alloc: Global) -> Case<'a> {
-        Case {
-            head: None,
-            settings: Vec::new(alloc),
-            common: 0,
-            fills: Vec::new(alloc),
-            wanted: Vec::new(alloc),
-            failed_before: 0,
-            tally: Tally {
-                passed: 0,
-                failed: 0,
-            },
-            net: ManuallyDrop::new(Network::empty()),
-        }
-    }
-
-    /// Takes the next line of the table.
-    fn take(&mut self, rt: &impl Print, alloc: Global, row: Row<'a>) -> Result<(), TableError> {
-        if row.text.is_empty() || row.text.starts_with('#') {
-            return Ok(());
-        }
-        let (word, _) = row.text.split_once(' ').unwrap_or((row.text, ""));
-        match word {
-            "case" => {
-                self.end(rt, alloc)?;
-                self.head = Some(row);
-            }
-            "with" | "each" | "from" => {
-                if !self.wanted.is_empty() {
-                    self.call(rt, alloc)?;
-                }
-                self.fills.push(row)?;
-            }
-            "status" => self.wanted.push(row)?,
-            _ if self.wanted.is_empty() => self.settings.push(row)?,
-            _ => self.wanted.push(row)?,
-        }
-        Ok(())
-    }
-
-    /// Makes the last calls of the case and tells of it.
-    fn end(&mut self, rt: &impl Print, alloc: Global) -> Result<(), TableError> {
-        let Some(head) = self.head else {
-            self.common = self.settings.len();
-            return Ok(());
-        };
-        if self.wanted.is_empty() {
-            return Err(head.refused(Fault::NoStatus));
-        }
-        self.call(rt, alloc)?;
-        self.settings.truncate(self.common);
-        if self.tally.failed == self.failed_before {
-            println!(rt; "ok {}", head.name())?;
-        }
-        self.failed_before = self.tally.failed;
-        Ok(())
-    }
-
-    /// Makes the calls of which all is said, one for each fill, or else one alone.
-    fn call(&mut self, rt: &impl Print, alloc: Global) -> Result<(), TableError> {
-        let fills = mem::replace(&mut self.fills, Vec::new(alloc));
-        if fills.is_empty() {
-            self.call_once(rt, alloc, None)?;
-        }
-        for fill in &fills {
-            self.call_filled(rt, alloc, *fill)?;
-        }
-        self.wanted.clear();
-        Ok(())
-    }
-
-    /// Makes a call with the text of a fill, or one for each of its words or its numbers.
-    fn call_filled(&mut self, rt: &impl Print, alloc: Global, fill: Row) -> Result<(), TableError> {
-        if let Some(words) = fill.text.strip_prefix("each ") {
-            for word in words.split(' ') {
-                self.call_once(rt, alloc, Some(word))?;
-            }
-            return Ok(());
-        }
-        let Some(numbers) = fill.text.strip_prefix("from ") else {
-            let text = fill.text.strip_prefix("with ").unwrap_or("");
-            return self.call_once(rt, alloc, Some(text));
-        };
-        let (from, to) = match range_of(numbers) {
-            Ok(range) => range,
-            Err(fault) => return Err(fill.refused(fault)),
-        };
-        for number in from..=to {
-            let text = format!(in alloc; "{number}")?;
-            self.call_once(rt, alloc, Some(text.as_str()))?;
-        }
-        Ok(())
-    }
-
-    /// Makes one call, and tells of it where it comes out otherwise than the table says.
-    fn call_once(
-        &mut self,
-        rt: &impl Print,
-        alloc: Global,
-        fill: Option<&str>,
-    ) -> Result<(), TableError> {
-        let mut trial = Trial::new(alloc);
-        add_rows(alloc, &self.settings, fill, &mut trial)?;
-        add_rows(alloc, &self.wanted, fill, &mut trial)?;
-        let came = trial.call(alloc, &mut self.net)?;
-        if trial.wants(&came) {
-            self.tally.passed = self.tally.passed.saturating_add(1);
-            return Ok(());
-        }
-        self.tally.failed = self.tally.failed.saturating_add(1);
-        let name = self.head.map_or("", |head| head.name());
-        println!(rt; "{name}: with {}", fill.unwrap_or("nothing"))?;
-        print_outcome(rt, "came", &came)?;
-        if let Some(wanted) = trial.wanted() {
-            print_outcome(rt, "wanted", wanted)?;
-        }
-        Ok(())
-    }
-}
-
-impl<'a> Row<'a> {
-    /// The name of the case that it begins.
-    fn name(self) -> &'a str {
-        self.text.strip_prefix("case ").unwrap_or("")
-    }
-
-    fn refused(self, fault: Fault) -> TableError {
-        TableError::Refused {
-            line: self.number,
-            fault,
-        }
-    }
-}
-
-/// The numbers of `A to B`.
-fn range_of(text: &str) -> Result<(u32, u32), Fault> {
-    match text.split_once(" to ") {
-        Some((from, to)) => Ok((from.parse()?, to.parse()?)),
-        None => Err(Fault::NoSuchLine),
-    }
-}
-
-/// Adds lines to a call, with a fill in their holes.
-fn add_rows(
-    alloc: Global,
-    rows: &[Row],
-    fill: Option<&str>,
-    trial: &mut Trial,
-) -> Result<(), TableError> {
-    for row in rows {
-        let added = match fill {
-            None => trial.add(alloc, row.text),
-            Some(fill) => trial.add(alloc, filled(alloc, row.text, fill)?.as_str()),
-        };
-        if let Err(fault) = added {
-            return Err(row.refused(fault));
+/// Sees that each line is one of a table.
+fn see_lines(table: &str) -> Result<(), Fault> {
+    for (index, line) in table.lines().enumerate() {
+        let is_one = BEGINNINGS.iter().any(|word| line.starts_with(*word));
+        if !is_one && !line.is_empty() {
+            return Err(Fault::NoSuchLine(index.saturating_add(1)));
         }
     }
     Ok(())
 }
 
-/// A line with a fill in its holes: `A | B` stands for `@1` by A and for `@2` by B.
-fn filled(alloc: Global, line: &str, fill: &str) -> Result<String, AllocError> {
-    let mut line = String::from_str(alloc, line)?;
-    for (index, text) in fill.split(" | ").enumerate() {
-        let hole = format!(in alloc; "@{}", index.saturating_add(1))?;
-        line = line.as_str().replace(alloc, hole.as_str(), text)?;
+impl Calls {
+    /// Makes the calls of a case: before each status stand its fills, and before the first one what is called.
+    fn make(
+        &mut self,
+        rt: &impl Print,
+        alloc: Global,
+        name: &str,
+        common: &str,
+        lines: &str,
+    ) -> Result<(), Fault> {
+        let (first, rest) = lines.split_once("\nstatus ").unwrap_or((lines, ""));
+        let setting = format!(in alloc; "{common}\n{first}")?;
+        let mut fills = first;
+        for wanted in rest.split("\nstatus ") {
+            let case = Case {
+                name,
+                setting: setting.as_str(),
+                wanted,
+            };
+            self.make_filled(rt, alloc, case, fills)?;
+            fills = wanted;
+        }
+        Ok(())
     }
-    Ok(line)
+
+    /// Makes a call for each fill, or else one alone.
+    fn make_filled(
+        &mut self,
+        rt: &impl Print,
+        alloc: Global,
+        case: Case,
+        fills: &str,
+    ) -> Result<(), Fault> {
+        let mut is_filled = false;
+        for line in fills.lines() {
+            if let Some(fill) = line.strip_prefix("with") {
+                self.call(rt, alloc, case, fill.strip_prefix(' ').unwrap_or(""))?;
+            } else if let Some(words) = line.strip_prefix("each ") {
+                self.call_for_words(rt, alloc, case, words)?;
+            } else if let Some(numbers) = line.strip_prefix("from ") {
+                self.call_for_numbers(rt, alloc, case, numbers)?;
+            } else {
+                continue;
+            }
+            is_filled = true;
+        }
+        if is_filled {
+            return Ok(());
+        }
+        self.call(rt, alloc, case, "")
+    }
+
+    /// Makes a call for each word.
+    fn call_for_words(
+        &mut self,
+        rt: &impl Print,
+        alloc: Global,
+        case: Case,
+        words: &str,
+    ) -> Result<(), Fault> {
+        for word in words.split(' ') {
+            self.call(rt, alloc, case, word)?;
+        }
+        Ok(())
+    }
+
+    /// Makes a call for each number of `A to B`.
+    fn call_for_numbers(
+        &mut self,
+        rt: &impl Print,
+        alloc: Global,
+        case: Case,
+        numbers: &str,
+    ) -> Result<(), Fault> {
+        let (from, to) = numbers.split_once(" to ").unwrap_or((numbers, ""));
+        let (from, to): (u32, u32) = (from.parse()?, to.parse()?);
+        for number in from..=to {
+            let fill = format!(in alloc; "{number}")?;
+            self.call(rt, alloc, case, fill.as_str())?;
+        }
+        Ok(())
+    }
+
+    /// Makes one call, and tells of it where it comes out otherwise than the table says.
+    fn call(
+        &mut self,
+        rt: &impl Print,
+        alloc: Global,
+        case: Case,
+        fill: &str,
+    ) -> Result<(), Fault> {
+        let setting = filled(alloc, case.setting, fill)?;
+        let wanted = filled(alloc, case.wanted, fill)?;
+        let (came, wanted) = come(alloc, setting.as_str(), wanted.as_str(), &mut self.net)?;
+        if came.is_as(&wanted) {
+            self.tally.passed = self.tally.passed.saturating_add(1);
+            return Ok(());
+        }
+        self.tally.failed = self.tally.failed.saturating_add(1);
+        println!(rt; "{}: with {fill}", case.name)?;
+        print_outcome(rt, "came", &came)?;
+        print_outcome(rt, "wanted", &wanted)
+    }
+}
+
+/// A text with a fill in its holes: `A | B` stands for `@1` by A and for `@2` by B.
+fn filled(alloc: Global, text: &str, fill: &str) -> Result<String, AllocError> {
+    let mut text = String::from_str(alloc, text)?;
+    for (index, part) in fill.split(" | ").enumerate() {
+        let hole = format!(in alloc; "@{}", index.saturating_add(1))?;
+        text = text.as_str().replace(alloc, hole.as_str(), part)?;
+    }
+    Ok(text)
 }
 
 /// Prints an outcome as a table says it.
-fn print_outcome(rt: &impl Print, word: &str, outcome: &Outcome) -> io::Result<()> {
+fn print_outcome(rt: &impl Print, word: &str, outcome: &Outcome) -> Result<(), Fault> {
     println!(rt; "{word} status {}", outcome.status)?;
     match str::from_utf8(&outcome.text) {
-        Ok(text) => println!(rt; "{text}"),
-        Err(_) => println!(rt; "(no text)"),
+        Ok(text) => println!(rt; "{text}")?,
+        Err(_) => println!(rt; "(no text)")?,
     }
+    Ok(())
 }

@@ -4,38 +4,21 @@ use std::io;
 use std::num::ParseIntError;
 use thiserror::Error;
 
-/// What is wrong in a line.
+/// What is wrong in a table.
 #[derive(Debug, Drop, Error)]
 pub enum Fault {
-    /// It is no line of a table.
-    #[error("no such line")]
-    NoSuchLine,
-    /// It isn't text, as what stands behind a status is.
-    #[error("behind a status stands text")]
-    NoText,
-    /// It is text of nothing.
-    #[error("there is no file before this text")]
+    /// A line is none of a table's.
+    #[error("line {0} is no line of a table")]
+    NoSuchLine(usize),
+    /// There is text of nothing.
+    #[error("there is no file before a text")]
     TextOfNothing,
-    /// It names a file that isn't there.
+    /// A file is named that isn't there.
     #[error("no such file")]
     NoSuchFile,
-    /// A number is wanted there.
-    #[error("a number is wanted here")]
+    /// A number is wanted.
+    #[error("a number is wanted")]
     NoNumber(#[from] ParseIntError),
-    /// It begins a case without a status.
-    #[error("this case has no status")]
-    NoStatus,
-    /// There was no memory.
-    #[error(transparent)]
-    Memory(#[from(alloc)] AllocError),
-}
-
-/// Why a table isn't read on.
-#[derive(Debug, Drop, Error)]
-pub enum TableError {
-    /// A line can't be read.
-    #[error("line {line}: {fault}")]
-    Refused { line: usize, fault: Fault },
     /// There was no memory.
     #[error(transparent)]
     Memory(#[from(alloc)] AllocError),

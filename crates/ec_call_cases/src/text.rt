@@ -7,40 +7,59 @@ use std::alloc::{AllocError, Global};
 /// What stands in a text for the place that a refusal tells.
 pub const MARK: u8 = b'^';
 
-/// The bytes that a line stands for, where it is one of text.
-pub fn text_of(alloc: Global, line: &str) -> Result<Option<Vec<u8>>, Fault> {
-    let mut text = Vec::new(alloc);
-    if let Some(digits) = line.strip_prefix("bytes ") {
-        for byte in digits.split(' ') {
-            text.push(u8::from_str_radix(byte, 16)?)?;
+/// The first line of a text, and what stands behind it.
+pub fn first_line(text: &str) -> (&str, &str) {
+    text.split_once('\n').unwrap_or((text, ""))
+}
+
+/// What stands behind a word at the beginning of a line, in the first line that begins with it.
+pub fn value_of<'a>(lines: &'a str, word: &str) -> Option<&'a str> {
+    for line in lines.lines() {
+        if let Some(value) = line.strip_prefix(word) {
+            return Some(value);
         }
-    } else if let Some(repeated) = line.strip_prefix("times ") {
-        let Some((count, line)) = repeated.split_once(' ') else {
-            return Err(Fault::NoSuchLine);
-        };
-        let count: u32 = count.parse()?;
-        for number in 0..count {
-            let number = format!(in alloc; "{number}")?;
-            let line = line.replace(alloc, '~', number.as_str())?;
-            push_line(line.as_str(), &mut text)?;
-        }
-    } else if line.starts_with('|') || line.starts_with('>') {
-        push_line(line, &mut text)?;
-    } else {
-        return Ok(None);
     }
-    Ok(Some(text))
+    None
+}
+
+/// Adds what a line stands for, where it is one of text.
+pub fn push_text(alloc: Global, line: &str, text: &mut Vec<u8>) -> Result<(), Fault> {
+    if let Some(digits) = line.strip_prefix("bytes ") {
+        push_bytes(digits, text)
+    } else if let Some(repeated) = line.strip_prefix("times ") {
+        push_times(alloc, repeated, text)
+    } else {
+        Ok(push_line(line, text)?)
+    }
 }
 
 /// Adds a line behind `|`, or a part of one behind `>`.
-fn push_line(line: &str, text: &mut Vec<u8>) -> Result<(), Fault> {
+fn push_line(line: &str, text: &mut Vec<u8>) -> Result<(), AllocError> {
     if let Some(line) = line.strip_prefix('|') {
         text.extend_from_slice(line.as_bytes())?;
         text.push(b'\n')?;
     } else if let Some(part) = line.strip_prefix('>') {
         text.extend_from_slice(part.as_bytes())?;
-    } else {
-        return Err(Fault::NoSuchLine);
+    }
+    Ok(())
+}
+
+/// Adds bytes by their hexadecimal digits.
+fn push_bytes(digits: &str, text: &mut Vec<u8>) -> Result<(), Fault> {
+    for byte in digits.split(' ') {
+        text.push(u8::from_str_radix(byte, 16)?)?;
+    }
+    Ok(())
+}
+
+/// Adds so many lines, with their numbers in place of `~`.
+fn push_times(alloc: Global, repeated: &str, text: &mut Vec<u8>) -> Result<(), Fault> {
+    let (count, line) = repeated.split_once(' ').unwrap_or((repeated, ""));
+    let count: u32 = count.parse()?;
+    for number in 0..count {
+        let number = format!(in alloc; "{number}")?;
+        let line = line.replace(alloc, '~', number.as_str())?;
+        push_line(line.as_str(), text)?;
     }
     Ok(())
 }

@@ -1,16 +1,19 @@
-//! One call and what should come of it, line by line.
+//! One call, and what should come of it.
+ghost use Rattle.std.specs.Prelude.{◌<◌, IfOk};
+
 use crate::error::Fault;
-use crate::text::{is_as, mark_in, place_behind, text_of};
+use crate::text::{first_line, is_as, mark_in, place_behind, push_text, value_of};
 use ec_outside::mem_shelf::{MemFile, MemShelf};
 use ec_outside::mem_sink::MemSink;
 use ec_tool::emerald::emerald;
 use ec_tool::network::Network;
 use std::alloc::{AllocError, Global};
+use std::num::ParseIntError;
 
 /// A file of the shelf.
 #[derive(Drop)]
-struct File {
-    name: String,
+struct File<'a> {
+    name: &'a str,
     text: Vec<u8>,
 }
 
@@ -21,166 +24,144 @@ pub struct Outcome {
     pub text: Vec<u8>,
 }
 
-/// A call: its words, its files, how many bytes a read and a put move at most (one at least), and which of them fail.
-#[derive(Drop)]
-pub struct Trial {
-    words: Vec<String>,
-    files: Vec<File>,
-    read_piece: usize,
-    read_fails: Vec<u64>,
-    put_piece: usize,
-    put_fails: Vec<u64>,
-
-    /// What should come of it, once that is said.
-    wanted: Option<Outcome>,
-
-    /// The place that was marked in a file.
-    place: Option<String>,
+impl Outcome {
+    /// Whether it is the wanted one.
+    pub fn is_as(&self, wanted: &Outcome) -> bool {
+        self.status == wanted.status && is_as(&self.text, &wanted.text)
+    }
 }
 
-impl Trial {
-    /// A call of no words, without files and faults.
-    pub fn new(alloc: Global) -> Trial {
-        Trial {
-            words: Vec::new(alloc),
-            files: Vec::new(alloc),
-            read_piece: usize::MAX,
-            read_fails: Vec::new(alloc),
-            put_piece: usize::MAX,
-            put_fails: Vec::new(alloc),
-            wanted: None,
-            place: None,
-        }
-    }
+/// What comes of a call, and what should: by the lines that say what is called, and those behind a status.
+pub fn come(
+    alloc: Global,
+    setting: &str,
+    wanted: &str,
+    net: &mut Network,
+) -> Result<(Outcome, Outcome), Fault> {
+    let mut files = files_of(alloc, setting)?;
+    let place = take_marks(alloc, &mut files)?;
+    let wanted = wanted_of(alloc, wanted, place.as_str(), &files)?;
+    let came = call(alloc, setting, &files, net)?;
+    Ok((came, wanted))
+}
 
-    /// What should come of it, once that is said.
-    pub fn wanted(&self) -> Option<&Outcome> {
-        self.wanted.as_ref()
-    }
-
-    /// Whether this is what should come of it.
-    pub fn wants(&self, came: &Outcome) -> bool {
-        match &self.wanted {
-            Some(wanted) => came.status == wanted.status && is_as(&came.text, &wanted.text),
-            None => false,
-        }
-    }
-
-    /// Adds what a line of a table says.
-    pub fn add(&mut self, alloc: Global, line: &str) -> Result<(), Fault> {
-        if self.wanted.is_some() {
-            return self.add_wanted(alloc, line);
-        }
-        if let Some(status) = line.strip_prefix("status ") {
-            let status = status.parse()?;
-            self.take_mark(alloc)?;
+/// The files that lines name, with their texts.
+fn files_of<'a>(alloc: Global, lines: &'a str) -> Result<Vec<File<'a>>, Fault> {
+    let mut files = Vec::new(alloc);
+    for line in lines.lines() {
+        if let Some(name) = line.strip_prefix("file ") {
             let text = Vec::new(alloc);
-            self.wanted = Some(Outcome { status, text });
-            return Ok(());
+            files.push(File { name, text })?;
+            continue;
         }
-        match self.text_of(alloc, line)? {
-            Some(text) => match self.files.last_mut() {
-                Some(file) => Ok(file.text.extend_from_slice(&text)?),
-                None => Err(Fault::TextOfNothing),
-            },
-            None => self.set(alloc, line),
-        }
-    }
-
-    /// Takes a mark out of the files, and keeps its place.
-    fn take_mark(&mut self, alloc: Global) -> Result<(), AllocError> {
-        for file in self.files.iter_mut() {
-            if let Some(at) = mark_in(&file.text) {
-                self.place = Some(place_behind(alloc, &file.text[..at])?);
-                file.text.remove(at);
-            }
-        }
-        Ok(())
-    }
-
-    /// Adds a line of what is written, with the marked place for a mark.
-    fn add_wanted(&mut self, alloc: Global, line: &str) -> Result<(), Fault> {
-        let text = match &self.place {
-            Some(place) => {
-                let line = line.replace(alloc, '^', place.as_str())?;
-                self.text_of(alloc, line.as_str())?
-            }
-            None => self.text_of(alloc, line)?,
-        };
-        match (text, &mut self.wanted) {
-            (Some(text), Some(wanted)) => Ok(wanted.text.extend_from_slice(&text)?),
-            _ => Err(Fault::NoText),
+        let text = text_of(alloc, line, &files)?;
+        match files.last_mut() {
+            Some(file) => file.text.extend_from_slice(&text)?,
+            None if text.is_empty() => {}
+            None => return Err(Fault::TextOfNothing),
         }
     }
+    Ok(files)
+}
 
-    /// The bytes that a line stands for, where it is one of text.
-    fn text_of(&self, alloc: Global, line: &str) -> Result<Option<Vec<u8>>, Fault> {
-        let Some(name) = line.strip_prefix("= ") else {
-            return text_of(alloc, line);
-        };
-        for file in &self.files {
-            if file.name.as_str() == name {
-                return Ok(Some(file.text.clone()?));
-            }
-        }
-        Err(Fault::NoSuchFile)
+/// The bytes that a line stands for; none, where it is no line of text.
+fn text_of(alloc: Global, line: &str, files: &[File]) -> Result<Vec<u8>, Fault> {
+    let mut text = Vec::new(alloc);
+    match line.strip_prefix("= ") {
+        Some(name) => text.extend_from_slice(held_by(files, name)?)?,
+        None => push_text(alloc, line, &mut text)?,
     }
+    Ok(text)
+}
 
-    /// Adds what a line says of the call.
-    fn set(&mut self, alloc: Global, line: &str) -> Result<(), Fault> {
-        if let Some(words) = line.strip_prefix("call ") {
-            for word in words.split(' ') {
-                self.words.push(String::from_str(alloc, word)?)?;
-            }
-        } else if let Some(name) = line.strip_prefix("file ") {
-            self.files.push(File {
-                name: String::from_str(alloc, name)?,
-                text: Vec::new(alloc),
-            })?;
-        } else if let Some(bytes) = line.strip_prefix("read piece ") {
-            self.read_piece = bytes.parse()?;
-        } else if let Some(bytes) = line.strip_prefix("put piece ") {
-            self.put_piece = bytes.parse()?;
-        } else if let Some(number) = line.strip_prefix("read fails ") {
-            self.read_fails.push(number.parse()?)?;
-        } else if let Some(number) = line.strip_prefix("put fails ") {
-            self.put_fails.push(number.parse()?)?;
-        } else if line != "call" {
-            return Err(Fault::NoSuchLine);
+/// What the file of a name holds.
+fn held_by<'a>(files: &'a [File], name: &str) -> Result<&'a [u8], Fault> {
+    for file in files {
+        if file.name == name {
+            return Ok(&file.text);
         }
-        Ok(())
     }
+    Err(Fault::NoSuchFile)
+}
 
-    /// Makes the call. The network that an earlier one left is taken over.
-    pub fn call(&self, alloc: Global, net: &mut Network) -> Result<Outcome, AllocError> {
-        let mut words = Vec::new(alloc);
-        for word in &self.words {
-            words.push(word.as_str())?;
+/// Takes a mark out of the files, and gives its place; the mark itself, where there is none.
+fn take_marks(alloc: Global, files: &mut Vec<File>) -> Result<String, AllocError> {
+    let mut place = String::from_str(alloc, "^")?;
+    for file in files.iter_mut() {
+        if let Some(at) = mark_in(&file.text) {
+            place = place_behind(alloc, &file.text[..at])?;
+            file.text.remove(at);
         }
-        let mut files = Vec::new(alloc);
-        for file in &self.files {
-            files.push(MemFile {
-                name: file.name.as_str(),
-                bytes: file.text.as_slice(),
-            })?;
-        }
-        self.call_with(alloc, &words, &files, net)
     }
+    Ok(place)
+}
 
-    /// Makes the call with these words over a shelf of these files.
-    fn call_with<'a>(
-        &self,
-        alloc: Global,
-        words: &'a [&'a str],
-        files: &[MemFile],
-        net: &mut Network,
-    ) -> Result<Outcome, AllocError> {
-        let mut shelf = MemShelf::new(alloc, files, self.read_piece.max(1), &self.read_fails)?;
-        let mut sink = MemSink::new(alloc, self.put_piece.max(1), &self.put_fails)?;
-        let status = emerald(alloc, words, &mut shelf, &mut sink, net);
-        Ok(Outcome {
-            status: status.code(),
-            text: Vec::from_slice(alloc, sink.taken())?,
-        })
+/// What should come of a call, by the lines behind a status, with a place for a mark.
+fn wanted_of(alloc: Global, lines: &str, place: &str, files: &[File]) -> Result<Outcome, Fault> {
+    let lines = lines.replace(alloc, '^', place)?;
+    let (status, lines) = first_line(lines.as_str());
+    let mut text = Vec::new(alloc);
+    for line in lines.lines() {
+        text.extend_from_slice(&text_of(alloc, line, files)?)?;
+    }
+    let status = status.parse()?;
+    Ok(Outcome { status, text })
+}
+
+/// Makes a call over these files. The network that an earlier one left is taken over.
+fn call(alloc: Global, lines: &str, files: &[File], net: &mut Network) -> Result<Outcome, Fault> {
+    let words = words_of(alloc, lines)?;
+    let files = shelf_of(alloc, files)?;
+    let (read_fails, put_fails) = (
+        numbers_of(alloc, lines, "read fails ")?,
+        numbers_of(alloc, lines, "put fails ")?,
+    );
+    let mut shelf = MemShelf::new(alloc, &files, piece_of(lines, "read piece ")?, &read_fails)?;
+    let mut sink = MemSink::new(alloc, piece_of(lines, "put piece ")?, &put_fails)?;
+    let status = emerald(alloc, &words, &mut shelf, &mut sink, net);
+    Ok(Outcome {
+        status: status.code(),
+        text: Vec::from_slice(alloc, sink.taken())?,
+    })
+}
+
+/// The words of a call.
+fn words_of<'a>(alloc: Global, lines: &'a str) -> Result<Vec<&'a str>, AllocError> {
+    match value_of(lines, "call ") {
+        Some(words) => words.split(' ').collect(alloc),
+        None => Ok(Vec::new(alloc)),
+    }
+}
+
+/// These files as a shelf has them.
+fn shelf_of<'a>(alloc: Global, files: &'a [File]) -> Result<Vec<MemFile<'a>>, AllocError> {
+    let mut shelf = Vec::new(alloc);
+    for file in files {
+        shelf.push(MemFile {
+            name: file.name,
+            bytes: file.text.as_slice(),
+        })?;
+    }
+    Ok(shelf)
+}
+
+/// The numbers of the calls that fail: those behind a word.
+fn numbers_of(alloc: Global, lines: &str, word: &str) -> Result<Vec<u64>, Fault> {
+    let mut numbers = Vec::new(alloc);
+    for line in lines.lines() {
+        if let Some(number) = line.strip_prefix(word) {
+            numbers.push(number.parse()?)?;
+        }
+    }
+    Ok(numbers)
+}
+
+/// How many bytes a call moves at most: the number behind a word, at least one.
+fn piece_of(lines: &str, word: &str) -> Result<usize, ParseIntError>
+    ensures { IfOk result (λ n. 0 < n) }
+{
+    match value_of(lines, word) {
+        Some(number) => Ok(number.parse::<usize>()?.max(1)),
+        None => Ok(usize::MAX),
     }
 }
