@@ -1,5 +1,5 @@
 //! The lines of a table, one behind the other.
-use crate::error::{Fault, TableError};
+use crate::error::Fault;
 use crate::isa::Isa;
 use crate::run::{CODE, Ran, Setting};
 use ec_target::outcome::Outcome;
@@ -21,7 +21,7 @@ struct Trial<'a> {
 }
 
 /// Tries the lines of a table, and tells of each that comes out otherwise.
-pub fn run_table(rt: &impl Print, alloc: Global, table: &str) -> Result<Tally, TableError> {
+pub fn run_table(rt: &impl Print, alloc: Global, table: &str) -> Result<Tally, Fault> {
     let mut isa = None;
     let mut tally = Tally {
         passed: 0,
@@ -36,12 +36,11 @@ pub fn run_table(rt: &impl Print, alloc: Global, table: &str) -> Result<Tally, T
             continue;
         }
         let line = index.saturating_add(1);
-        let Some(isa) = isa else {
-            let fault = Fault::NoKind;
-            return Err(TableError::Refused { line, fault });
-        };
         match unlike(alloc, isa, text) {
-            Err(fault) => return Err(TableError::Refused { line, fault }),
+            Err(fault) => {
+                println!(rt; "line {line}:")?;
+                return Err(fault);
+            }
             Ok(None) => tally.passed = tally.passed.saturating_add(1),
             Ok(Some(came)) => {
                 tally.failed = tally.failed.saturating_add(1);
@@ -53,7 +52,10 @@ pub fn run_table(rt: &impl Print, alloc: Global, table: &str) -> Result<Tally, T
 }
 
 /// What comes of a line, where that isn't what the line says.
-fn unlike(alloc: Global, isa: Isa, line: &str) -> Result<Option<String>, Fault> {
+fn unlike(alloc: Global, isa: Option<Isa>, line: &str) -> Result<Option<String>, Fault> {
+    let Some(isa) = isa else {
+        return Err(Fault::NoKind);
+    };
     match line.split_once(" -> ") {
         Some((tried, wanted)) => {
             let trial = Trial::read(alloc, tried)?;

@@ -22,17 +22,6 @@ pub enum Fault {
     /// There was no memory.
     #[error(transparent)]
     Memory(#[from(alloc)] AllocError),
-}
-
-/// Why a table isn't read on.
-#[derive(Debug, Drop, Error)]
-pub enum TableError {
-    /// A line can't be read.
-    #[error("line {line}: {fault}")]
-    Refused { line: usize, fault: Fault },
-    /// There was no memory.
-    #[error(transparent)]
-    Memory(#[from(alloc)] AllocError),
     /// The table wasn't read, or what came out wasn't written.
     #[error(transparent)]
     Outside(#[from] io::Error),

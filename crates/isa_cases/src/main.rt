@@ -9,7 +9,7 @@ mod riscv;
 mod run;
 
 use crate::cases::run_table;
-use crate::error::TableError;
+use crate::error::Fault;
 use std::io;
 use std::process::ExitCode;
 
@@ -22,15 +22,15 @@ fn main(rt: HostRuntime) -> ExitCode {
 
 /// Tries the cases of standard input, and tells of each that comes out otherwise: 0 where none does, 1 where one does, 2 where
 /// the table can't be read.
-fn run_input(rt: &HostRuntime) -> Result<u8, TableError> {
+fn run_input(rt: &HostRuntime) -> Result<u8, Fault> {
     let table = io::read_to_string(rt.alloc(), rt.reader())?;
     match run_table(rt, rt.alloc(), table.as_str()) {
         Ok(tally) => {
             println!(rt; "{} passed, {} failed", tally.passed, tally.failed)?;
             Ok(if tally.failed == 0 { 0 } else { 1 })
         }
-        Err(error) => {
-            println!(rt; "{error}")?;
+        Err(fault) => {
+            println!(rt; "{fault}")?;
             Ok(2)
         }
     }

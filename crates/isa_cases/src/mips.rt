@@ -1,9 +1,10 @@
 //! The instructions of MIPS I as GNU as spells them.
 
-use mips_isa::field::{Sixteen, Target};
+use mips_isa::field::{Register, Sixteen, Target};
 use mips_isa::instr::{HiLoOperation, Immediate, Instr};
 use mips_isa::word::{decode, encode};
 use std::alloc::{AllocError, Global};
+use std::fmt;
 
 /// The instruction of a word, as an assembler spells it; None where it is no instruction's, or the instruction has another word.
 pub fn spelled(alloc: Global, word: u32) -> Result<Option<String>, AllocError> {
@@ -25,23 +26,16 @@ fn spelling(alloc: Global, instr: Instr) -> Result<String, AllocError> {
             rt,
             amount,
         } => { format!(in alloc; "{shift:?} ${}, ${}, {}", rd.number, rt.number, amount.bits) }
-        Instr::OnVariableShift { shift, rd, rt, rs } => {
-            format!(in alloc; "{shift:?} ${}, ${}, ${}", rd.number, rt.number, rs.number)
-        }
+        Instr::OnVariableShift { shift, rd, rt, rs } => on_three(alloc, &shift, rd, rt, rs),
         Instr::OnRegisters {
             operation,
             rd,
             rs,
             rt,
-        } => {
-            format!(in alloc;
-                "{operation:?} ${}, ${}, ${}",
-                rd.number, rs.number, rt.number
-            )
-        }
+        } => on_three(alloc, &operation, rd, rs, rt),
         Instr::OnHiLo { operation, rs, rt } => on_hilo(alloc, operation, rs.number, rt.number),
-        Instr::ReadHiLo { from, rd } => format!(in alloc; "{from:?} ${}", rd.number),
-        Instr::WriteHiLo { to, rs } => format!(in alloc; "{to:?} ${}", rs.number),
+        Instr::ReadHiLo { from, rd } => on_one(alloc, &from, rd),
+        Instr::WriteHiLo { to, rs } => on_one(alloc, &to, rs),
         Instr::Jr { rs } => format!(in alloc; "jr ${}", rs.number),
         Instr::Jalr { link } => {
             format!(in alloc; "jalr ${}, ${}", link.rd.number, link.rs.number)
@@ -77,28 +71,43 @@ fn spelling(alloc: Global, instr: Instr) -> Result<String, AllocError> {
             rt,
             rs,
             offset,
-        } => {
-            format!(in alloc;
-                "{load:?} ${}, {}(${})",
-                rt.number,
-                signed(offset),
-                rs.number
-            )
-        }
+        } => at_place(alloc, &load, rt, offset, rs),
         Instr::StoreTo {
             store,
             rt,
             rs,
             offset,
-        } => {
-            format!(in alloc;
-                "{store:?} ${}, {}(${})",
-                rt.number,
-                signed(offset),
-                rs.number
-            )
-        }
+        } => at_place(alloc, &store, rt, offset, rs),
     }
+}
+
+fn on_one(alloc: Global, name: &impl fmt::Debug, x: Register) -> Result<String, AllocError> {
+    format!(in alloc; "{name:?} ${}", x.number)
+}
+
+fn on_three(
+    alloc: Global,
+    name: &impl fmt::Debug,
+    x: Register,
+    y: Register,
+    z: Register,
+) -> Result<String, AllocError> {
+    format!(in alloc; "{name:?} ${}, ${}, ${}", x.number, y.number, z.number)
+}
+
+fn at_place(
+    alloc: Global,
+    name: &impl fmt::Debug,
+    rt: Register,
+    offset: Sixteen,
+    rs: Register,
+) -> Result<String, AllocError> {
+    format!(in alloc;
+        "{name:?} ${}, {}(${})",
+        rt.number,
+        signed(offset),
+        rs.number
+    )
 }
 
 // GNU as spells a division with its assembler's third register, 0.

@@ -2,9 +2,11 @@
 
 ghost use Rattle.std.specs.Prelude.{◌≤◌};
 
+use rv_isa::field::{Register, Twelve};
 use rv_isa::instr::Instr;
 use rv_isa::word::{decode, encode};
 use std::alloc::{AllocError, Global};
+use std::fmt;
 
 /// The instruction of a word, as an assembler spells it; None where it is no instruction's, or the instruction has another word.
 pub fn spelled(alloc: Global, word: u32) -> Result<Option<String>, AllocError> {
@@ -47,39 +49,25 @@ fn spelling(alloc: Global, instr: Instr) -> Result<String, AllocError> {
             rd,
             rs1,
             offset,
-        } => {
-            let offset = signed(12, offset.bits);
-            format!(in alloc; "{load:?} x{}, {offset}(x{})", rd.number, rs1.number)
-        }
+        } => at_place(alloc, &load, rd, offset, rs1),
         Instr::StoreTo {
             store,
             rs1,
             rs2,
             offset,
-        } => {
-            let offset = signed(12, offset.bits);
-            format!(in alloc; "{store:?} x{}, {offset}(x{})", rs2.number, rs1.number)
-        }
+        } => at_place(alloc, &store, rs2, offset, rs1),
         Instr::OnImmediate {
             operation,
             rd,
             rs1,
             number,
-        } => {
-            let number = signed(12, number.bits);
-            format!(in alloc; "{operation:?} x{}, x{}, {number}", rd.number, rs1.number)
-        }
+        } => on_number(alloc, &operation, rd, rs1, signed(12, number.bits)),
         Instr::OnShift {
             shift,
             rd,
             rs1,
             amount,
-        } => {
-            format!(in alloc;
-                "{shift:?} x{}, x{}, {}",
-                rd.number, rs1.number, amount.bits
-            )
-        }
+        } => on_number(alloc, &shift, rd, rs1, signed(32, amount.bits)),
         Instr::OnRegisters {
             operation,
             rd,
@@ -93,6 +81,27 @@ fn spelling(alloc: Global, instr: Instr) -> Result<String, AllocError> {
         }
         Instr::Ecall => String::from_str(alloc, "ecall"),
     }
+}
+
+fn at_place(
+    alloc: Global,
+    name: &impl fmt::Debug,
+    register: Register,
+    offset: Twelve,
+    base: Register,
+) -> Result<String, AllocError> {
+    let offset = signed(12, offset.bits);
+    format!(in alloc; "{name:?} x{}, {offset}(x{})", register.number, base.number)
+}
+
+fn on_number(
+    alloc: Global,
+    name: &impl fmt::Debug,
+    rd: Register,
+    rs1: Register,
+    number: i32,
+) -> Result<String, AllocError> {
+    format!(in alloc; "{name:?} x{}, x{}, {number}", rd.number, rs1.number)
 }
 
 // So many bits as a signed number.
