@@ -52,7 +52,7 @@ impl From<SourceError> for Unlisted {
 const CODE_BASE: u32 = 0x0040_0000;
 
 /// Adds the listing of a source for a kind of machine: of each operation its heading and its words, each with its address and its
-/// instruction, and at each stop what it is and what is live there. After an error the text is of no use.
+/// instruction, and at each stop what it is and what is live there.
 pub fn list(alloc: Global, source: &[u8], kind: Kind, out: &mut String) -> Result<(), Unlisted>
     ensures accepted { OnOk result (IsChecked source.now) }
     ensures refused { IfErr result (IsUnlistedOf source.now) }
