@@ -39,11 +39,7 @@ fn kind_text(kind: Kind) -> &'static str {
 }
 
 /// How a run ended, as a report tells it behind the word `stop`.
-pub fn end_text(
-    alloc: Global,
-    specs: &[NodeSpec],
-    end: ReportEnd,
-) -> Result<String, AllocError> {
+pub fn end_text(alloc: Global, specs: &[NodeSpec], end: ReportEnd) -> Result<String, AllocError> {
     match end {
         ReportEnd::Ends(RunEnd::Finished) => String::from_str(alloc, "finished"),
         ReportEnd::Ends(RunEnd::Stuck) => String::from_str(alloc, "stuck"),
@@ -67,11 +63,7 @@ pub fn end_text(
 }
 
 /// `full a blocks need 2 free 1`
-pub fn full_text(
-    alloc: Global,
-    specs: &[NodeSpec],
-    lack: Lack,
-) -> Result<String, AllocError> {
+pub fn full_text(alloc: Global, specs: &[NodeSpec], lack: Lack) -> Result<String, AllocError> {
     let name = match specs.get(lack.node as usize) {
         Some(spec) => name_text(alloc, spec.name.as_slice())?,
         None => String::new(alloc),

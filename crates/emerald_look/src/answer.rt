@@ -1,10 +1,10 @@
 //! The answer to what the words ask for.
 use crate::files::{FileNames, Files, Unread, read_files};
 use crate::messages::put_tables;
-use crate::why::{put_nodes, put_schedule, put_source};
-use crate::words::Asked;
 use crate::pages::{map, objects, trace};
 use crate::refused::Refused;
+use crate::why::{put_nodes, put_schedule, put_source};
+use crate::words::Asked;
 use ec_inputs::nodes::read_nodes;
 use ec_inputs::schedule::read_schedule;
 use ec_listing::listing::{Unlisted, list};
