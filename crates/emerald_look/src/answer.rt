@@ -5,16 +5,15 @@ use crate::pages::{map, objects, trace};
 use crate::refused::Refused;
 use crate::why::{put_nodes, put_schedule, put_source};
 use crate::words::Asked;
-use ec_inputs::nodes::read_nodes;
-use ec_inputs::schedule::read_schedule;
+use ec_inputs::nodes::{NodesError, read_nodes};
+use ec_inputs::schedule::{ScheduleError, read_schedule};
 use ec_listing::listing::{Unlisted, list};
 use ec_outside::shelf::Shelf;
-use ec_tool::source::check_source;
+use ec_tool::source::{SourceError, check_source};
 use ec_tool::status::Status;
 use ec_world::node::Kind;
 use std::alloc::{AllocError, Global};
 use std::fmt::Write;
-use std::mem::ManuallyDrop;
 
 /// A text, the status with which the program ends, and whether the text is one for standard error.
 #[derive(Drop)]
@@ -100,21 +99,36 @@ fn why(
 ) -> Result<(), Refused> {
     judge_source(alloc, &files.source.bytes)?;
     if names.nodes.is_some() {
-        read_nodes(alloc, &files.nodes.bytes)?;
+        judge_nodes(alloc, &files.nodes.bytes)?;
     }
     if names.schedule.is_some() {
-        read_schedule(alloc, &files.schedule.bytes)?;
+        judge_schedule(alloc, &files.schedule.bytes)?;
     }
     out.push_str("accepted\n")?;
     Ok(())
 }
 
-/// Judges a source. Its tree isn't dropped: its memory goes when the program ends.
 fn judge_source(alloc: Global, bytes: &[u8]) -> Result<(), Refused> {
-    let judged = ManuallyDrop::new(check_source(alloc, bytes));
-    match &*judged {
+    match check_source(alloc, bytes) {
         Ok(_) => Ok(()),
-        Err(error) => Err(Refused::from(*error)),
+        Err(SourceError::Refused(refused)) => Err(Refused::Source(refused)),
+        Err(SourceError::Memory) => Err(Refused::Memory),
+    }
+}
+
+fn judge_nodes(alloc: Global, bytes: &[u8]) -> Result<(), Refused> {
+    match read_nodes(alloc, bytes) {
+        Ok(_) => Ok(()),
+        Err(NodesError::Refused(rule)) => Err(Refused::Nodes(rule)),
+        Err(NodesError::Memory) => Err(Refused::Memory),
+    }
+}
+
+fn judge_schedule(alloc: Global, bytes: &[u8]) -> Result<(), Refused> {
+    match read_schedule(alloc, bytes) {
+        Ok(_) => Ok(()),
+        Err(ScheduleError::Refused { rule, line }) => Err(Refused::Schedule { rule, line }),
+        Err(ScheduleError::Memory) => Err(Refused::Memory),
     }
 }
 

@@ -1,7 +1,7 @@
 //! Why there is nothing to look at.
-use ec_inputs::nodes::{NodeRule, NodesError};
-use ec_inputs::schedule::{ScheduleError, ScheduleRule};
-use ec_tool::source::{self, SourceError};
+use ec_inputs::nodes::NodeRule;
+use ec_inputs::schedule::ScheduleRule;
+use ec_tool::source;
 use std::alloc::AllocError;
 
 /// Why there is nothing to look at: the first file that is refused, of source, nodes and schedule.
@@ -23,32 +23,5 @@ pub enum Refused {
 impl From<AllocError> for Refused {
     fn from(_error: AllocError) -> Refused {
         Refused::Memory
-    }
-}
-
-impl From<SourceError> for Refused {
-    fn from(error: SourceError) -> Refused {
-        match error {
-            SourceError::Refused(refused) => Refused::Source(refused),
-            SourceError::Memory => Refused::Memory,
-        }
-    }
-}
-
-impl From<NodesError> for Refused {
-    fn from(error: NodesError) -> Refused {
-        match error {
-            NodesError::Refused(rule) => Refused::Nodes(rule),
-            NodesError::Memory => Refused::Memory,
-        }
-    }
-}
-
-impl From<ScheduleError> for Refused {
-    fn from(error: ScheduleError) -> Refused {
-        match error {
-            ScheduleError::Refused { rule, line } => Refused::Schedule { rule, line },
-            ScheduleError::Memory => Refused::Memory,
-        }
     }
 }

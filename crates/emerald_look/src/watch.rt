@@ -1,5 +1,4 @@
-//! A run is watched: what its source, its nodes and its schedule give, entry by entry. Trees, code, networks and worlds aren't dropped: their
-//! memory goes when the program ends.
+//! A run is watched: what its source, its nodes and its schedule give, entry by entry.
 ghost use Rattle.std.specs.Prelude.{◌≤◌, length};
 ghost use Rattle.ec_check.specs.Accepted.{HasCore};
 ghost use Rattle.ec_native_run.specs.Runs.{AreNodes};
@@ -10,8 +9,8 @@ use ec_acts::load::LoadError;
 use ec_base::list::Seq;
 use ec_code::code::Parts;
 use ec_history::history::History;
-use ec_inputs::nodes::read_nodes;
-use ec_inputs::schedule::read_schedule;
+use ec_inputs::nodes::{NodesError, read_nodes};
+use ec_inputs::schedule::{ScheduleError, read_schedule};
 use ec_inputs::words::DEFAULT_BUDGET;
 use ec_look::record::{end_text, first_history, full_text};
 use ec_look::watching::{CodeRun, Watched, Watching};
@@ -23,7 +22,7 @@ use ec_report::drive::drive;
 use ec_report::end::ReportEnd;
 use ec_runnable::prepare::prepare;
 use ec_stepping::code::Code;
-use ec_tool::source::{Accepted, check_source};
+use ec_tool::source::{Accepted, SourceError, check_source};
 use ec_vector_types::written::written_vectors;
 use ec_world::class::Classes;
 use ec_world::node::NodeSpec;
@@ -31,7 +30,7 @@ use ec_world::run::Entry;
 use ec_world::running::Running;
 use ec_world::value::ValueType;
 use std::alloc::{AllocError, Global};
-use std::mem::{ManuallyDrop, replace};
+use std::mem::replace;
 
 /// What happened in the run of a source on nodes along a schedule.
 pub fn watch(
@@ -41,15 +40,26 @@ pub fn watch(
     schedule: &[u8],
     budget: Option<u64>,
 ) -> Result<History, Refused> {
-    let judged = ManuallyDrop::new(check_source(alloc, source));
-    let found = match &*judged {
+    let found = match check_source(alloc, source) {
         Ok(found) => found,
-        Err(error) => return Err(Refused::from(*error)),
+        Err(SourceError::Refused(refused)) => return Err(Refused::Source(refused)),
+        Err(SourceError::Memory) => return Err(Refused::Memory),
     };
-    let specs = read_nodes(alloc, nodes)?;
-    let entries = read_schedule(alloc, schedule)?;
+    let specs = match read_nodes(alloc, nodes) {
+        Ok(specs) => specs,
+        Err(NodesError::Refused(rule)) => return Err(Refused::Nodes(rule)),
+        Err(NodesError::Memory) => return Err(Refused::Memory),
+    };
+    let entries = match read_schedule(alloc, schedule) {
+        Ok(entries) => entries,
+        Err(ScheduleError::Refused { rule, line }) => return Err(Refused::Schedule { rule, line }),
+        Err(ScheduleError::Memory) => return Err(Refused::Memory),
+    };
     let budget = budget.unwrap_or(u64::from(DEFAULT_BUDGET));
-    Ok(watch_run(alloc, found, source, &specs, &entries, budget)?)
+    match watch_run(alloc, &found, source, &specs, &entries, budget) {
+        Ok(history) => Ok(history),
+        Err(_) => Err(Refused::Memory),
+    }
 }
 
 /// What happened in the run of an accepted source: its machine code on a network, and beside it its three-address code, which rests at the
@@ -92,18 +102,22 @@ fn watch_loaded(
 ) -> Result<History, AllocError>
     requires { length specs.now ≤ 64 }
 {
-    let mut parts = ManuallyDrop::new(lower(alloc, &program)?);
+    let mut parts = lower(alloc, &program)?;
     let classes = replace(&mut parts.classes, Seq::new(alloc));
-    let mut watched = ManuallyDrop::new(Watched {
+    let history = first_history(alloc, specs)?;
+    let running = started(alloc, &parts, classes, specs)?;
+    let watched = Watched {
         net,
-        running: started(alloc, &parts, classes, specs)?,
-        history: first_history(alloc, specs)?,
-    });
-    let watching = Watching { alloc, program };
-    let end = follow(&watching, &mut watched, schedule, budget)?;
-    let mut history = replace(&mut watched.history, first_history(alloc, &[])?);
-    history.end = end_text(alloc, specs, end)?;
-    Ok(history)
+        running,
+        history,
+    };
+    watch_to_end(
+        &Watching { alloc, program },
+        watched,
+        specs,
+        schedule,
+        budget,
+    )
 }
 
 /// The run of code on nodes, before its first entry.
@@ -117,6 +131,22 @@ fn started<'a>(
 {
     let globals = globals_of(alloc, parts)?;
     Running::start(alloc, Code { parts }, specs.len() as u32, classes, &globals)
+}
+
+/// What happens up to the end of a run.
+fn watch_to_end(
+    watching: &Watching<'_>,
+    watched: Watched<'_>,
+    specs: &[NodeSpec],
+    schedule: &[Entry],
+    budget: u64,
+) -> Result<History, AllocError> {
+    let mut watched = watched;
+    let end = follow(watching, &mut watched, schedule, budget)?;
+    let Watched { history, .. } = watched;
+    let mut history = history;
+    history.end = end_text(watching.alloc, specs, end)?;
+    Ok(history)
 }
 
 /// Does the entries up to the end, which is told.
