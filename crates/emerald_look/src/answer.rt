@@ -1,15 +1,13 @@
 //! The answer to what the words ask for.
 use crate::files::{FileNames, Files, Unread, read_files};
+use crate::judge::{entries_of, nodes_of, program_of};
 use crate::messages::put_tables;
 use crate::pages::{map, objects, trace};
 use crate::refused::Refused;
 use crate::why::{put_nodes, put_schedule, put_source};
 use crate::words::Asked;
-use ec_inputs::nodes::{NodesError, read_nodes};
-use ec_inputs::schedule::{ScheduleError, read_schedule};
 use ec_listing::listing::{Unlisted, list};
 use ec_outside::shelf::Shelf;
-use ec_tool::source::{SourceError, check_source};
 use ec_tool::status::Status;
 use ec_world::node::Kind;
 use std::alloc::{AllocError, Global};
@@ -97,39 +95,15 @@ fn why(
     files: &Files<'_>,
     out: &mut String,
 ) -> Result<(), Refused> {
-    judge_source(alloc, &files.source.bytes)?;
+    program_of(alloc, &files.source.bytes)?;
     if names.nodes.is_some() {
-        judge_nodes(alloc, &files.nodes.bytes)?;
+        nodes_of(alloc, &files.nodes.bytes)?;
     }
     if names.schedule.is_some() {
-        judge_schedule(alloc, &files.schedule.bytes)?;
+        entries_of(alloc, &files.schedule.bytes)?;
     }
     out.push_str("accepted\n")?;
     Ok(())
-}
-
-fn judge_source(alloc: Global, bytes: &[u8]) -> Result<(), Refused> {
-    match check_source(alloc, bytes) {
-        Ok(_) => Ok(()),
-        Err(SourceError::Refused(refused)) => Err(Refused::Source(refused)),
-        Err(SourceError::Memory) => Err(Refused::Memory),
-    }
-}
-
-fn judge_nodes(alloc: Global, bytes: &[u8]) -> Result<(), Refused> {
-    match read_nodes(alloc, bytes) {
-        Ok(_) => Ok(()),
-        Err(NodesError::Refused(rule)) => Err(Refused::Nodes(rule)),
-        Err(NodesError::Memory) => Err(Refused::Memory),
-    }
-}
-
-fn judge_schedule(alloc: Global, bytes: &[u8]) -> Result<(), Refused> {
-    match read_schedule(alloc, bytes) {
-        Ok(_) => Ok(()),
-        Err(ScheduleError::Refused { rule, line }) => Err(Refused::Schedule { rule, line }),
-        Err(ScheduleError::Memory) => Err(Refused::Memory),
-    }
 }
 
 /// Writes the machine code of a source for a kind of machine.

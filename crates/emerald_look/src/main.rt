@@ -7,6 +7,7 @@
 //! | `answer` | what is asked for, or why a file is refused |
 //! | `pages` | the trace of a run, its map, and its objects |
 //! | `watch` | a run is watched |
+//! | `judge` | what files say, or why they are refused |
 //! | `refused` | why there is nothing to look at |
 //! | `why`, `place`, `nodes` | a refusal in words, with its place |
 //! | `messages` | what there is to say of each code of `emerald` |
@@ -14,6 +15,7 @@
 
 mod answer;
 mod files;
+mod judge;
 mod messages;
 mod nodes;
 mod pages;

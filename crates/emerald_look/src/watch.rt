@@ -4,13 +4,12 @@ ghost use Rattle.ec_check.specs.Accepted.{HasCore};
 ghost use Rattle.ec_native_run.specs.Runs.{AreNodes};
 ghost use Rattle.ec_tool.specs.Sources.{IsProgramText};
 
+use crate::judge::{entries_of, nodes_of, program_of};
 use crate::refused::Refused;
 use ec_acts::load::LoadError;
 use ec_base::list::Seq;
 use ec_code::code::Parts;
 use ec_history::history::History;
-use ec_inputs::nodes::{NodesError, read_nodes};
-use ec_inputs::schedule::{ScheduleError, read_schedule};
 use ec_inputs::words::DEFAULT_BUDGET;
 use ec_look::record::{end_text, first_history, full_text};
 use ec_look::watching::{CodeRun, Watched, Watching};
@@ -22,7 +21,7 @@ use ec_report::drive::drive;
 use ec_report::end::ReportEnd;
 use ec_runnable::prepare::prepare;
 use ec_stepping::code::Code;
-use ec_tool::source::{Accepted, SourceError, check_source};
+use ec_tool::source::Accepted;
 use ec_vector_types::written::written_vectors;
 use ec_world::class::Classes;
 use ec_world::node::NodeSpec;
@@ -40,26 +39,11 @@ pub fn watch(
     schedule: &[u8],
     budget: Option<u64>,
 ) -> Result<History, Refused> {
-    let found = match check_source(alloc, source) {
-        Ok(found) => found,
-        Err(SourceError::Refused(refused)) => return Err(Refused::Source(refused)),
-        Err(SourceError::Memory) => return Err(Refused::Memory),
-    };
-    let specs = match read_nodes(alloc, nodes) {
-        Ok(specs) => specs,
-        Err(NodesError::Refused(rule)) => return Err(Refused::Nodes(rule)),
-        Err(NodesError::Memory) => return Err(Refused::Memory),
-    };
-    let entries = match read_schedule(alloc, schedule) {
-        Ok(entries) => entries,
-        Err(ScheduleError::Refused { rule, line }) => return Err(Refused::Schedule { rule, line }),
-        Err(ScheduleError::Memory) => return Err(Refused::Memory),
-    };
+    let found = program_of(alloc, source)?;
+    let specs = nodes_of(alloc, nodes)?;
+    let entries = entries_of(alloc, schedule)?;
     let budget = budget.unwrap_or(u64::from(DEFAULT_BUDGET));
-    match watch_run(alloc, &found, source, &specs, &entries, budget) {
-        Ok(history) => Ok(history),
-        Err(_) => Err(Refused::Memory),
-    }
+    Ok(watch_run(alloc, &found, source, &specs, &entries, budget)?)
 }
 
 /// What happened in the run of an accepted source: its machine code on a network, and beside it its three-address code, which rests at the
