@@ -16,15 +16,15 @@ use Rattle.ec_types.specs.Known.{IsOfProgram}
 use Rattle.ec_core.specs.declared.Compared.{Compared}
 use Rattle.ec_core.specs.declared.Compared.TheVariants as compared
 use Rattle.ec_emission.proofs.Forms.{both_true, not_true}
-use Rattle.ec_emission.specs.Expressions.{Emitted, fits_here, comparison, compared_pair, pair_first, pair_second, test_of}
+use Rattle.ec_emission.specs.Expressions.{Emitted, fits_here, comparison, compared_pair, operand_of, pair_second, test_of}
 use Rattle.ec_emission.specs.Expressions.{stop_order}
 use Rattle.ec_emission.specs.Expressions.{order_of, stops_at}
 use Rattle.ec_accepted.proofs.FinenessForms.{EachFits, above_one, by_its_code, by_its_condition}
 use Rattle.ec_accepted.proofs.Frames.{Held}
 use Rattle.ec_accepted.proofs.Taking.{fits_any, only_integers, only_booleans, only_strings}
 use Rattle.ec_accepted.proofs.Pieces.{Setting, go_on}
-use Rattle.ec_accepted.proofs.Shown.{IsOf, fine_operand, live_in, AskedOf, Works, Shown, slot, first_slot, given}
-use Rattle.ec_accepted.proofs.Shown.{operand_is, pair_leads, first_is}
+use Rattle.ec_accepted.proofs.Shown.{IsOf, fine_operand, live_in, AskedOf, Works, Shown, slot, given}
+use Rattle.ec_accepted.proofs.Shown.{operand_is, pair_leads}
 use Rattle.ec_accepted.proofs.Stopping.{rests}
 use Rattle.ec_rules.specs.Operands.{can_compare, are_alike}
 use Rattle.ec_rules.specs.Types.{takes}
@@ -186,15 +186,15 @@ module _ {w : Setting} where
       IsOfProgram w.declared.types a → IsOfProgram w.declared.types b → stop_order how what ≡ None → Works w e a →
       Works w f b → (hs : Held) → AskedOf w (compared_pair how e f (length hs)) hs
   compared_asked {e} {f} {a} {b} how what each alike fa fb none v k hs =
-      let first : Held = first_slot e f.leaf a ∷ hs in
+      let first : Held = slot e.leaf a ∷ hs in
       let us : Held = slot f.leaf b ∷ first in
       record {
         held = us;
-        within = λ d s h. above_one (slot f.leaf b) first d s (above_one (first_slot e f.leaf a) hs d s h);
+        within = λ d s h. above_one (slot f.leaf b) first d s (above_one (slot e.leaf a) hs d s h);
         code = pair_leads (given v hs) k;
         test =
-            tested_by w us (pair_first e f (length hs)) (pair_second f (length hs)) how what a b each alike fa fb
-            (first_is (given v hs) f.leaf us (above_one (slot f.leaf b) first))
+            tested_by w us (operand_of e (length hs)) (pair_second f (length hs)) how what a b each alike fa fb
+            (operand_is (given v hs) us (above_one (slot f.leaf b) first))
             (operand_is (given k first) us (λ d s h. h)) none;
       }
 

@@ -17,14 +17,14 @@ use Rattle.ec_code.specs.Typing.{integer, boolean, string, class_type, field_typ
 use Rattle.ec_types.specs.declared.conform.static_type.StaticType.{StaticType}
 use Rattle.ec_types.specs.Known.{IsOfProgram}
 use Rattle.ec_emission.proofs.Forms.{no_leaf}
-use Rattle.ec_emission.specs.Expressions.{Condition, Emitted, operand_of, pair_first, pair_second, decided, negated}
+use Rattle.ec_emission.specs.Expressions.{Condition, Emitted, operand_of, pair_second, decided, negated}
 use Rattle.ec_emission.specs.Expressions.{inverted, holds}
 use Rattle.ec_emission.specs.Expressions.{by_code, by_condition, calculated, stops_at, all_code}
 use Rattle.ec_accepted.proofs.Frames.{Held, Within}
 use Rattle.ec_accepted.proofs.Pieces.{Setting, around_of, Agrees, FitsAs, go_on, nothing, pushes}
-use Rattle.ec_accepted.proofs.Shown.{IsOf, fine_operand, live_in, Goes, AskedOf, Works, Given, Shown, slot, first_slot}
+use Rattle.ec_accepted.proofs.Shown.{IsOf, fine_operand, live_in, Goes, AskedOf, Works, Given, Shown, slot}
 use Rattle.ec_accepted.proofs.Shown.{given, operand_leads}
-use Rattle.ec_accepted.proofs.Shown.{operand_is, pair_leads, first_is}
+use Rattle.ec_accepted.proofs.Shown.{operand_is, pair_leads}
 use Rattle.ec_accepted.proofs.Stopping.{above, held_if, rests}
 use Rattle.ec_emission.specs.Types.{type_at, operand_type}
 use Rattle.ec_emission.specs.Leaves.{Leaf, leaf_operand}
@@ -188,12 +188,12 @@ module _ {w : Setting} where
       Given w e integer before hs → Works w f integer → FitsAs w integer integer →
       Goes w (calculated how e f (length hs)) before (Some integer ∷ hs)
   calculated_leads how none {e} {f} {before} {hs} v k fits =
-      let first : Option StaticType = first_slot e f.leaf integer in
+      let first : Option StaticType = slot e.leaf integer in
       let us : Held = slot f.leaf integer ∷ first ∷ hs in
       go_on (pair_leads v k)
-      (computed how (pair_first e f (length hs)) (pair_second f (length hs)) hs us
+      (computed how (operand_of e (length hs)) (pair_second f (length hs)) hs us
       (λ d s h. above_one (slot f.leaf integer) (first ∷ hs) d s (above_one first hs d s h)) fits
-      (first_is v f.leaf us (above_one (slot f.leaf integer) (first ∷ hs)))
+      (operand_is v us (above_one (slot f.leaf integer) (first ∷ hs)))
       (operand_is (given k (first ∷ hs)) us (λ d s h. h)) (none (pair_second f (length hs))))
 
   -- ---- what is shown of each form

@@ -11,14 +11,13 @@ use Rattle.ec_code.specs.declared.code.Variable.TheVariants.{Temporary}
 use Rattle.ec_code.specs.Fine.{divisor_in, Passes, FineNumbers, Tells}
 use Rattle.ec_code.specs.Typing.{integer}
 use Rattle.ec_types.specs.declared.conform.static_type.StaticType.{StaticType}
-use Rattle.ec_emission.specs.Expressions.{Emitted, divided, pair_first, pair_second}
+use Rattle.ec_emission.specs.Expressions.{Emitted, divided, operand_of, pair_second}
 use Rattle.ec_accepted.proofs.FinenessForms.{above_one}
 use Rattle.ec_accepted.proofs.Frames.{Held, Within}
 use Rattle.ec_accepted.proofs.Pieces.{Setting, none_named, one_named, FitsAs, FineStep, From, go_on, opened_divisor}
 use Rattle.ec_accepted.proofs.Pieces.{writes_next, agrees_next}
-use Rattle.ec_accepted.proofs.Shown.{IsOf, fine_operand, frame, live_in, Goes, Works, Given, slot, first_slot, given}
+use Rattle.ec_accepted.proofs.Shown.{IsOf, fine_operand, frame, live_in, Goes, Works, Given, slot, given}
 use Rattle.ec_accepted.proofs.Shown.{operand_is, pair_leads}
-use Rattle.ec_accepted.proofs.Shown.{first_is}
 use Rattle.ec_emission.specs.Rows.{fail_row}
 use Rattle.ec_world.specs.declared.process.Cause.TheVariants as cause
 
@@ -108,10 +107,10 @@ module _ {w : Setting} where
       Given w e integer before hs → Works w f integer → FitsAs w integer integer →
       Goes w (divided how at e f (length hs)) before (Some integer ∷ hs)
   divided_leads how at by {e} {f} {before} {hs} v k fits =
-      let first : Option StaticType = first_slot e f.leaf integer in
+      let first : Option StaticType = slot e.leaf integer in
       let us : Held = slot f.leaf integer ∷ first ∷ hs in
       go_on (pair_leads v k)
-      (divides how at (pair_first e f (length hs)) (pair_second f (length hs)) hs us (by (pair_second f (length hs)))
+      (divides how at (operand_of e (length hs)) (pair_second f (length hs)) hs us (by (pair_second f (length hs)))
       (λ d s h. above_one (slot f.leaf integer) (first ∷ hs) d s (above_one first hs d s h)) fits
-      (first_is v f.leaf us (above_one (slot f.leaf integer) (first ∷ hs)))
+      (operand_is v us (above_one (slot f.leaf integer) (first ∷ hs)))
       (operand_is (given k (first ∷ hs)) us (λ d s h. h)))

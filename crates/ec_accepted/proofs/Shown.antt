@@ -13,8 +13,7 @@ use Rattle.ec_code.specs.Typing.{Declared, integer, boolean}
 use Rattle.ec_types.specs.declared.conform.static_type.StaticType.{StaticType}
 use Rattle.ec_types.specs.declared.conform.static_type.StaticType.TheVariants as type
 use Rattle.ec_emission.proofs.Forms.{no_leaf}
-use Rattle.ec_emission.specs.Expressions.{Condition, Emitted, operand_or, code_or, operand_of, operand_code, first_operand}
-use Rattle.ec_emission.specs.Expressions.{first_code}
+use Rattle.ec_emission.specs.Expressions.{Condition, Emitted, operand_or, code_or, operand_of, operand_code}
 use Rattle.ec_emission.specs.Expressions.{pair_code, kept}
 use Rattle.ec_accepted.proofs.Frames.{Held, Frame, Within, held_in}
 use Rattle.ec_accepted.proofs.Pieces.{Setting, lives, From, Leads, go_on, silent, nothing}
@@ -40,11 +39,6 @@ fine_operand d p live operand.Nil t u h fits = subst (λ s. FitsHere d p s u) h 
 abbrev pub slot : Option Leaf → StaticType → Option StaticType
 slot None t = Some t
 slot (Some l) t = None
-
--- of the first of two, by what the second one is
-abbrev pub first_slot : Emitted → Option Leaf → StaticType → Option StaticType
-first_slot e None t = Some t
-first_slot e (Some r) t = slot e.leaf t
 
 module _ (w : Setting) where
   -- in an expression all named variables are known
@@ -130,21 +124,8 @@ module _ {w : Setting} where
 
   -- ---- two operands
 
-  first_leads :
-      {e : Emitted} {t : StaticType} {before hs : Held} → Given w e t before hs → (r : Option Leaf) →
-      Goes w (first_code e r (length hs)) before (first_slot e r t ∷ hs)
-  first_leads v None = v.code
-  first_leads v (Some l) = operand_leads v
-
   pub pair_leads :
       {e f : Emitted} {t u : StaticType} {before hs : Held} → Given w e t before hs → Works w f u →
-      Goes w (pair_code e f (length hs)) before (slot f.leaf u ∷ first_slot e f.leaf t ∷ hs)
+      Goes w (pair_code e f (length hs)) before (slot f.leaf u ∷ slot e.leaf t ∷ hs)
   pair_leads {e} {f} {t} {u} {before} {hs} v k =
-      go_on (first_leads v f.leaf) (operand_leads (given k (first_slot e f.leaf t ∷ hs)))
-
-  pub first_is :
-      {e : Emitted} {t : StaticType} {before hs : Held} → Given w e t before hs → (r : Option Leaf) → (us : Held) →
-      Within (first_slot e r t ∷ hs) us → IsOf (live_in w us) (first_operand e r (length hs)) t
-  first_is {e} {t} {before} {hs} v None us within =
-      held_in w.operation.variables (frame w us) (length hs) t (within (length hs) t (inl (refl, refl)))
-  first_is v (Some l) us within = operand_is v us within
+      go_on (operand_leads v) (operand_leads (given k (slot e.leaf t ∷ hs)))

@@ -28,7 +28,7 @@ use Rattle.ec_core.specs.declared.Place.{Place}
 use Rattle.ec_core.specs.declared.Place.TheVariants as place
 use Rattle.ec_emission.specs.Expressions.{Emitted, by_code, by_condition, calculated, compared_pair, comparison, divided, fetch}
 use Rattle.ec_emission.specs.Expressions.{fetch_all, fits_here, inverted, itself, joined, leaf_at, multiplied, negated}
-use Rattle.ec_emission.specs.Expressions.{pair_code, pair_first, pair_second, operand_code, operand_of, read, stops_at, test_of}
+use Rattle.ec_emission.specs.Expressions.{pair_code, pair_second, operand_code, operand_of, read, stops_at, test_of}
 use Rattle.ec_emission.specs.Expressions.{then_stop, variable_if}
 use Rattle.ec_core.specs.Literals.{Texts}
 use Rattle.ec_code.specs.Live.{read_by, read_in}
@@ -125,7 +125,7 @@ module _ {count : ℕ} where
         (λ h top m. record {
           code = pair_within k.holds j.holds h top (omega arith) (omega arith);
           asks =
-              test_reads count top how (pair_first x y h) (pair_second y h) (pair_reads k.holds j.holds h top (omega arith) (omega arith))
+              test_reads count top how (operand_of x h) (pair_second y h) (pair_reads k.holds j.holds h top (omega arith) (omega arith))
               (pair_turned k.holds j.holds h top (omega arith) (omega arith));
         })
     comparison_sized d l how (Some o) =
@@ -145,14 +145,14 @@ module _ {count : ℕ} where
     calculated_within : (how : Arithmetic) → Within count top ((m + n) + 1) (calculated how x y h)
     calculated_within how =
         join (m + n) 1 (pair_code x y h) _ (pair_within k j h top l r)
-        (one (op.Compute how (variable.Temporary h) (pair_first x y h) (pair_second y h)) (pair_reads k j h top l r, omega arith))
+        (one (op.Compute how (variable.Temporary h) (operand_of x h) (pair_second y h)) (pair_reads k j h top l r, omega arith))
 
     divided_within : (how : Arithmetic) (at : ℕ) → Within count top ((m + n) + 3) (divided how at x y h)
     divided_within how at =
         join (m + n) 3 (pair_code x y h) _ (pair_within k j h top l r)
-        (step 2 (op.Branch (test.Divides (pair_first x y h) (pair_second y h)) true 1) _ (pair_reads k j h top l r, tt)
+        (step 2 (op.Branch (test.Divides (operand_of x h) (pair_second y h)) true 1) _ (pair_reads k j h top l r, tt)
         (step 1 (op.Rest (fail_row cause.ZeroDivisor at)) _ (tt, tt)
-        (one (op.Compute how (variable.Temporary h) (pair_first x y h) (pair_second y h)) (pair_reads k j h top l r, omega arith))))
+        (one (op.Compute how (variable.Temporary h) (operand_of x h) (pair_second y h)) (pair_reads k j h top l r, omega arith))))
 
     concat_within : (at : ℕ) → Within count top ((m + n) + 1) (joined Concat y at x h)
     concat_within at =

@@ -6,8 +6,7 @@ use Rattle.ec_code.specs.declared.code.Op.TheVariants as op
 use Rattle.ec_code.specs.declared.code.Variable.TheVariants as variable
 use Rattle.ec_compile.proofs.Within.{Reach, Within, nothing, more, join, one}
 use Rattle.ec_emission.specs.Expressions.{Applied, Condition, Emitted, Following, as_leaf, by_code, by_condition, code_or, decided}
-use Rattle.ec_emission.specs.Expressions.{first_code, first_operand, kept, operand_code, operand_of, operand_or, pair_code, pair_first}
-use Rattle.ec_emission.specs.Expressions.{pair_second}
+use Rattle.ec_emission.specs.Expressions.{kept, operand_code, operand_of, operand_or, pair_code, pair_second}
 use Rattle.ec_code.specs.Live.{read_by, read_in}
 use Rattle.ec_emission.specs.Leaves.{IsThereOf, Leaf, Named, Number, Truth, Nil, leaf_operand}
 
@@ -65,14 +64,6 @@ module _ {count : ℕ} where
     pub alone_reads : Every (Reach count top) (read_in (operand_of x h))
     alone_reads = let s : 1 ≤ v = k.some in operand_reads count top h x.leaf k.leaf (omega arith)
 
-    first_within : (right : Option Leaf) → Within count top m (first_code x right h)
-    first_within None = k.code h top l
-    first_within (Some r) = alone_within
-
-    pub first_reads : (right : Option Leaf) → Every (Reach count top) (read_in (first_operand x right h))
-    first_reads None = let s : 1 ≤ v = k.some in (omega arith, tt)
-    first_reads (Some r) = alone_reads
-
   module _ {v m w n : ℕ} {x y : Emitted} (k : Holds count v m x) (j : Holds count w n y) (h top : ℕ) (l : h + v ≤ top)
       (r : h + (1 + w) ≤ top) where
     right : suc h + w ≤ top
@@ -80,17 +71,17 @@ module _ {count : ℕ} where
 
     pub pair_within : Within count top (m + n) (pair_code x y h)
     pair_within =
-        join m n (first_code x y.leaf h) (operand_code y (suc h)) (first_within k h top l y.leaf) (alone_within j (suc h) top right)
+        join m n (operand_code x h) (operand_code y (suc h)) (alone_within k h top l) (alone_within j (suc h) top right)
 
-    pub pair_reads : Every (Reach count top) (read_in (pair_first x y h) ++ read_in (pair_second y h))
+    pub pair_reads : Every (Reach count top) (read_in (operand_of x h) ++ read_in (pair_second y h))
     pair_reads =
-        every_joined (Reach count top) (read_in (pair_first x y h)) (read_in (pair_second y h)) (first_reads k h top l y.leaf)
+        every_joined (Reach count top) (read_in (operand_of x h)) (read_in (pair_second y h)) (alone_reads k h top l)
         (alone_reads j (suc h) top right)
 
-    pub pair_turned : Every (Reach count top) (read_in (pair_second y h) ++ read_in (pair_first x y h))
+    pub pair_turned : Every (Reach count top) (read_in (pair_second y h) ++ read_in (operand_of x h))
     pair_turned =
-        every_joined (Reach count top) (read_in (pair_second y h)) (read_in (pair_first x y h)) (alone_reads j (suc h) top right)
-        (first_reads k h top l y.leaf)
+        every_joined (Reach count top) (read_in (pair_second y h)) (read_in (operand_of x h)) (alone_reads j (suc h) top right)
+        (alone_reads k h top l)
 
   -- ---- expressions by their code
 

@@ -11,9 +11,9 @@ use Rattle.ec_core.specs.declared.Compared.{Compared}
 use Rattle.ec_core.specs.declared.Compared.TheVariants as compared
 use Rattle.ec_core.specs.declared.Expression.{Expression}
 use Rattle.ec_emission.proofs.Forms.{Good, value, both_true, no_leaf, same_leaf, by_its_code, by_its_condition}
-use Rattle.ec_emission.proofs.Operands.{pair, reads, reads_first, held, first_held}
+use Rattle.ec_emission.proofs.Operands.{pair, reads, held}
 use Rattle.ec_emission.proofs.Turns.{Setting, Comes, in_turn, framed, opened, stops}
-use Rattle.ec_emission.specs.Expressions.{Emitted, fits_here, comparison, compared_pair, pair_first, pair_second, test_of, wanted_of}
+use Rattle.ec_emission.specs.Expressions.{Emitted, fits_here, comparison, compared_pair, operand_of, pair_second, test_of, wanted_of}
 use Rattle.ec_emission.specs.Expressions.{stop_order, order_of, stops_at}
 use Rattle.ec_meaning.specs.Steps.{Goes, gives, compare, comparing, same_or_not}
 use Rattle.ec_meaning.specs.declared.item.Item.{Item}
@@ -131,13 +131,13 @@ module _ {w : Setting} where
       let b = both_true (fits_here e) (fits_here r) f in
       by_its_condition (fits_here e && fits_here r) (compared_pair how e r)
       (λ hs.
-      let a : Operand = pair_first e r (length hs) in
+      let a : Operand = operand_of e (length hs) in
       let c : Operand = pair_second r (length hs) in
       record {
-        held = held r.leaf ∷ first_held e r.leaf ∷ hs;
+        held = held r.leaf ∷ held e.leaf ∷ hs;
         item = i.Compare how;
         decides =
-            at.by_comparison (compare how) (λ own st. refl) a c (reads_first e r.leaf (length hs)) (reads r.leaf (suc (length hs)))
+            at.by_comparison (compare how) (λ own st. refl) a c (reads e.leaf (length hs)) (reads r.leaf (suc (length hs)))
             (test_of how a c) (wanted_of how) (tests_as how a c);
         turns =
             opened (i.Evaluate x ∷ i.Evaluate y ∷ i.Compare how ∷ []) comes

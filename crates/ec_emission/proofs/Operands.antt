@@ -10,8 +10,7 @@ use Rattle.ec_code.specs.declared.code.Test.TheVariants as test
 use Rattle.ec_code.specs.declared.code.Variable.TheVariants as variable
 use Rattle.ec_core.specs.declared.Expression.{Expression}
 use Rattle.ec_emission.proofs.Turns.{Setting, Standing, Comes, Turns, Asked, in_turn, framed, one}
-use Rattle.ec_emission.specs.Expressions.{Emitted, operand_or, code_or, operand_code, first_operand, first_code}
-use Rattle.ec_emission.specs.Expressions.{pair_code, holds}
+use Rattle.ec_emission.specs.Expressions.{Emitted, operand_or, code_or, operand_code, pair_code, holds}
 use Rattle.ec_meaning.specs.Programs.{line}
 use Rattle.ec_meaning.specs.Steps.{Step, Goes, divides, gives_if, last_two}
 use Rattle.ec_meaning.specs.declared.item.Item.{Item}
@@ -33,15 +32,6 @@ held (Some l) = Said l
 pub reads : (o : Option Leaf) (h : ℕ) → read h (held o) ≡ Some (operand_or h o)
 reads None h = refl
 reads (Some l) h = refl
-
--- of the first of two, by what the second one is
-abbrev pub first_held : Emitted → Option Leaf → Hold
-first_held x None = Kept
-first_held x (Some l) = held x.leaf
-
-pub reads_first : (x : Emitted) (o : Option Leaf) (h : ℕ) → read h (first_held x o) ≡ Some (first_operand x o h)
-reads_first x None h = refl
-reads_first x (Some l) h = reads x.leaf h
 
 module _ (w : Setting) where
   -- what gives a value above others, by its code or as a leaf
@@ -69,20 +59,14 @@ module _ {w : Setting} where
     turns = operand t;
   }
 
-  first :
-      {x : Emitted} {hs js : List Hold} {xs : List Item} → Works w x hs js xs → (o : Option Leaf) →
-      Turns w (first_code x o (length hs)) js (first_held x o ∷ hs) xs []
-  first t None = t.code
-  first t (Some l) = operand t
-
   -- Two operands; what is to do behind the first opens into the second and what is left then.
   pub pair :
       {x y : Emitted} {hs js : List Hold} {xs zs more : List Item} → (v : Expression) → Works w x hs js xs →
       ((ks : List Hold) → Works w y ks ks (i.Evaluate v ∷ [])) →
       ((ops : List Op) (ks ls : List Hold) → Turns w ops ks ls (i.Evaluate v ∷ more) more → Turns w ops ks ls zs more) →
-      Turns w (pair_code x y (length hs)) js (held y.leaf ∷ first_held x y.leaf ∷ hs) (xs ++ zs) more
+      Turns w (pair_code x y (length hs)) js (held y.leaf ∷ held x.leaf ∷ hs) (xs ++ zs) more
   pair {x} {y} {hs} {zs = zs} {more = more} v t u begin =
-      in_turn (framed zs (first t y.leaf)) (begin _ _ _ (framed more (operand (u (first_held x y.leaf ∷ hs)))))
+      in_turn (framed zs (operand t)) (begin _ _ _ (framed more (operand (u (held x.leaf ∷ hs)))))
 
   -- ---- what is worked out of two operands
 

@@ -10,10 +10,10 @@ use Rattle.ec_code.specs.declared.code.Arithmetic.{Arithmetic}
 use Rattle.ec_code.specs.declared.code.Arithmetic.TheVariants as arithmetic
 use Rattle.ec_core.specs.declared.Expression.{Expression}
 use Rattle.ec_emission.proofs.Forms.{Good, value, both_true, by_its_code, no_leaf}
-use Rattle.ec_emission.proofs.Operands.{Works, pair, computes, divided_by, opened_with_two, reads, reads_first, held, first_held}
+use Rattle.ec_emission.proofs.Operands.{Works, pair, computes, divided_by, opened_with_two, reads, held}
 use Rattle.ec_emission.proofs.Turns.{Setting, Comes, Turns, in_turn, framed, opened, nothing, stops}
 use Rattle.ec_emission.specs.Expressions.{Emitted, Applied, fits_here, all_apply, applied_code, kept, by_code, calculated, divided, joined}
-use Rattle.ec_emission.specs.Expressions.{multiplied, pair_code, pair_first, pair_second}
+use Rattle.ec_emission.specs.Expressions.{multiplied, operand_of, pair_code, pair_second}
 use Rattle.ec_meaning.specs.Programs.{Source, line}
 use Rattle.ec_meaning.specs.Steps.{Step, Goes, gives_if, last_two, join, calculate, divides}
 use Rattle.ec_meaning.specs.declared.item.Item.{Item}
@@ -94,7 +94,7 @@ module _ {w : Setting} where
   pair_opened :
       {e r : Emitted} {hs js : List Hold} {xs : List Item} → (x : Item) → (v : Expression) → (z : Item) → Opens w x v z →
       Works w e hs js xs → Good w v r → fits_here r ≡ true →
-      Turns w (pair_code e r (length hs)) js (held r.leaf ∷ first_held e r.leaf ∷ hs) (xs ++ x ∷ []) (z ∷ [])
+      Turns w (pair_code e r (length hs)) js (held r.leaf ∷ held e.leaf ∷ hs) (xs ++ x ∷ []) (z ∷ [])
   pair_opened x v z comes t g f = pair v t (value g f) (λ ops ks ls u. opened (i.Evaluate v ∷ z ∷ []) comes u)
 
   calculates :
@@ -105,7 +105,7 @@ module _ {w : Setting} where
       Turns w (calculated how e r (length hs)) js (Kept ∷ hs) (xs ++ x ∷ []) []
   calculates {r} x v z how act opens comes is g f e hs js xs t =
       in_turn (pair_opened x v z opens t g f)
-      (computes how act comes is (pair_first e r (length hs)) (pair_second r (length hs)) (reads_first e r.leaf (length hs))
+      (computes how act comes is (operand_of e (length hs)) (pair_second r (length hs)) (reads e.leaf (length hs))
       (reads r.leaf (suc (length hs))))
 
   divides_out :
@@ -115,7 +115,7 @@ module _ {w : Setting} where
       Turns w (divided (arithmetic_of by) (line w.source site) e r (length hs)) js (Kept ∷ hs) (xs ++ x ∷ []) []
   divides_out {r} x v by site does opens g f e hs js xs t =
       in_turn (pair_opened x v (i.Calculate by site) opens t g f)
-      (divided_by by site does (pair_first e r (length hs)) (pair_second r (length hs)) (reads_first e r.leaf (length hs))
+      (divided_by by site does (operand_of e (length hs)) (pair_second r (length hs)) (reads e.leaf (length hs))
       (reads r.leaf (suc (length hs))))
 
   pub adds :

@@ -85,23 +85,13 @@ operand_of x h = operand_or h x.leaf
 abbrev pub operand_code : Emitted → ℕ → List Op
 operand_code x h = code_or (x.code h) x.leaf
 
--- two operands: the first one is held while the second is worked out, unless this is a leaf
-abbrev pub first_operand : Emitted → Option Leaf → ℕ → Operand
-first_operand x None h = temporary h
-first_operand x (Some r) h = operand_of x h
-
-abbrev pub first_code : Emitted → Option Leaf → ℕ → List Op
-first_code x None h = x.code h
-first_code x (Some r) h = operand_code x h
-
-abbrev pub pair_first : Emitted → Emitted → ℕ → Operand
-pair_first x y h = first_operand x y.leaf h
-
+-- Two operands, the second one above the first. No expression writes a named variable, so the first operand stays what it is, while the
+-- second is worked out.
 abbrev pub pair_second : Emitted → ℕ → Operand
 pair_second y h = operand_of y (suc h)
 
 abbrev pub pair_code : Emitted → Emitted → ℕ → List Op
-pair_code x y h = first_code x y.leaf h ++ operand_code y (suc h)
+pair_code x y h = operand_code x h ++ operand_code y (suc h)
 
 -- what a condition is where nothing else is known of it
 abbrev pub holds : Option Leaf → (ℕ → List Op) → ℕ → Condition
@@ -184,7 +174,7 @@ stop_order how _ = None
 
 abbrev pub compared_pair : Comparison → Emitted → Emitted → ℕ → Condition
 compared_pair how x y h =
-    record { code = pair_code x y h; asks = test_of how (pair_first x y h) (pair_second y h); wanted = wanted_of how }
+    record { code = pair_code x y h; asks = test_of how (operand_of x h) (pair_second y h); wanted = wanted_of how }
 
 abbrev pub decided : Condition → ℕ → List Op
 decided c h = c.code ++ op.Decide (variable.Temporary h) c.asks c.wanted ∷ []
@@ -271,15 +261,15 @@ applied_code [] x h = x.code h
 applied_code (a ∷ rest) x h = a.code x h ++ applied_code rest kept h
 
 abbrev pub calculated : Arithmetic → Emitted → Emitted → ℕ → List Op
-calculated how x y h = pair_code x y h ++ op.Compute how (variable.Temporary h) (pair_first x y h) (pair_second y h) ∷ []
+calculated how x y h = pair_code x y h ++ op.Compute how (variable.Temporary h) (operand_of x h) (pair_second y h) ∷ []
 
 -- The stop of a failing division stands right behind the test of the divisor.
 abbrev pub divided : Arithmetic → ℕ → Emitted → Emitted → ℕ → List Op
 divided how at x y h =
     pair_code x y h
-    ++ op.Branch (test.Divides (pair_first x y h) (pair_second y h)) true 1
+    ++ op.Branch (test.Divides (operand_of x h) (pair_second y h)) true 1
     ∷ op.Rest (fail_row cause.ZeroDivisor at)
-    ∷ op.Compute how (variable.Temporary h) (pair_first x y h) (pair_second y h)
+    ∷ op.Compute how (variable.Temporary h) (operand_of x h) (pair_second y h)
     ∷ []
 
 abbrev pub joined : Additive → Emitted → ℕ → Emitted → ℕ → List Op

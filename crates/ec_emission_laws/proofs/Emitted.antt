@@ -15,10 +15,9 @@ use Rattle.ec_core.specs.declared.Place.TheVariants as place
 use Rattle.ec_emission.specs.Expressions.{Applied, Condition, Emitted, Following, all_code, applied_code, as_leaf, by_code, by_condition}
 use Rattle.ec_emission.specs.Expressions.{calculated}
 use Rattle.ec_emission.specs.Expressions.{chain, chain_code, code_or, compared_pair, comparison, divided, fetch_all}
-use Rattle.ec_emission.specs.Expressions.{first_code}
-use Rattle.ec_emission.specs.Expressions.{first_operand, holds, inverted, itself, joined, leaf_at, links_code, multiplied, needed_code}
+use Rattle.ec_emission.specs.Expressions.{holds, inverted, itself, joined, leaf_at, links_code, multiplied, needed_code}
 use Rattle.ec_emission.specs.Expressions.{negated}
-use Rattle.ec_emission.specs.Expressions.{operand_code, operand_of, operand_or, own_call, own_code, following_code, pair_code, pair_first, pair_second}
+use Rattle.ec_emission.specs.Expressions.{operand_code, operand_of, operand_or, own_call, own_code, following_code, pair_code, pair_second}
 use Rattle.ec_emission.specs.Expressions.{read}
 use Rattle.ec_emission.specs.Expressions.{test_of, variable_if}
 use Rattle.ec_meaning.specs.Programs.{Source}
@@ -71,17 +70,9 @@ operand_small x k h = operand_by x.leaf k.leaf h
 pub operand_code_small : (x : Emitted) → SmallEmitted x → (h : ℕ) → Small (operand_code x h)
 operand_code_small x k h = code_by (x.code h) x.leaf (k.code h)
 
-first_small : (x : Emitted) → SmallEmitted x → (leaf : Option Leaf) (h : ℕ) → SmallOperand (first_operand x leaf h)
-first_small x k None h = tt
-first_small x k (Some l) h = operand_small x k h
-
-first_code_small : (x : Emitted) → SmallEmitted x → (leaf : Option Leaf) (h : ℕ) → Small (first_code x leaf h)
-first_code_small x k None h = k.code h
-first_code_small x k (Some l) h = operand_code_small x k h
-
 pair_code_small : (x y : Emitted) → SmallEmitted x → SmallEmitted y → (h : ℕ) → Small (pair_code x y h)
 pair_code_small x y j k h =
-    both (first_code x y.leaf h) (operand_code y (suc h)) (first_code_small x j y.leaf h) (operand_code_small y k (suc h))
+    both (operand_code x h) (operand_code y (suc h)) (operand_code_small x j h) (operand_code_small y k (suc h))
 
 holds_small : (leaf : Option Leaf) (code : ℕ → List Op) → SmallLeaf leaf → ((h : ℕ) → Small (code h)) → (h : ℕ)
     → SmallCondition (holds leaf code h)
@@ -128,7 +119,7 @@ test_small compares.MoreEqual x y j k = (k, j)
 pair_small : (how : Comparison) (x y : Emitted) → SmallEmitted x → SmallEmitted y → (h : ℕ) → SmallCondition (compared_pair how x y h)
 pair_small how x y j k h = record {
   code = pair_code_small x y j k h;
-  asks = test_small how (pair_first x y h) (pair_second y h) (first_small x j y.leaf h) (operand_small y k (suc h));
+  asks = test_small how (operand_of x h) (pair_second y h) (operand_small x j h) (operand_small y k (suc h));
 }
 
 pub comparison_small : (how : Comparison) (x y : Emitted) (order : Option Order) → SmallEmitted x → SmallEmitted y
@@ -142,12 +133,12 @@ comparison_small how x y (Some order) j k =
 module _ (x y : Emitted) (j : SmallEmitted x) (k : SmallEmitted y) where
   calculated_small : (how : Arithmetic) (h : ℕ) → Small (calculated how x y h)
   calculated_small how h =
-      both (pair_code x y h) _ (pair_code_small x y j k h) ((first_small x j y.leaf h, operand_small y k (suc h)), tt)
+      both (pair_code x y h) _ (pair_code_small x y j k h) ((operand_small x j h, operand_small y k (suc h)), tt)
 
   divided_small : (how : Arithmetic) (at h : ℕ) → Small (divided how at x y h)
   divided_small how at h =
-      let operands : SmallOperand (pair_first x y h) × SmallOperand (pair_second y h) =
-      (first_small x j y.leaf h, operand_small y k (suc h)) in
+      let operands : SmallOperand (operand_of x h) × SmallOperand (pair_second y h) =
+      (operand_small x j h, operand_small y k (suc h)) in
       both (pair_code x y h) _ (pair_code_small x y j k h) (operands, (tt, (operands, tt)))
 
   joined_small : (how : Additive) (at h : ℕ) → Small (joined how y at x h)

@@ -8,30 +8,29 @@ use Rattle.ec_code.specs.Typing.{boolean}
 use Rattle.ec_code.specs.declared.code.Op.{Op}
 use Rattle.ec_code.specs.declared.code.Op.TheVariants as op
 use Rattle.ec_code.specs.declared.code.Operand.{Operand}
-use Rattle.ec_code.specs.declared.code.Test.{Test}
 use Rattle.ec_code.specs.declared.code.Test.TheVariants as test
 use Rattle.ec_code.specs.declared.code.Variable.TheVariants as variable
 use Rattle.ec_core.specs.declared.Expression.{Expression, out-Expression}
 use Rattle.ec_core.specs.declared.Expression.TheOpen.{Expression-F, Link-F}
 use Rattle.ec_core.specs.declared.Link.{Link, out-Link}
 use Rattle.ec_core.specs.declared.Place.{Place}
-use Rattle.ec_emission.specs.Expressions.{Emitted, Following, Condition, all_code, links_code, own_call, chain_code, following_code}
+use Rattle.ec_emission.specs.Expressions.{Emitted, Following, all_code, links_code, own_call, chain_code, following_code}
 use Rattle.ec_emission.specs.Expressions.{needed_code}
 use Rattle.ec_emission.specs.Expressions.{comparison, pair_second, test_of, wanted_of, stop_order, operand_code, operand_of}
-use Rattle.ec_emission.specs.Expressions.{first_code, first_operand, stops_at, builtin_type, fetch_all}
+use Rattle.ec_emission.specs.Expressions.{stops_at, builtin_type, fetch_all}
 use Rattle.ec_expressions.proofs.Operands.{summed, multiplied_all}
 use Rattle.ec_expressions.proofs.Parts.{of_expression, of_link, layer, link_layer, expression_is, link_is}
 use Rattle.ec_expressions.specs.Emitting.{source_by, count_by, emitted_by, following_by, AnExpression, ALink, leaf_in}
 use Rattle.ec_expressions.specs.Emitting.{itself_in, is_call_in}
-use Rattle.ec_expressions.specs.Emitting.{is_leaf, is_own_by, fetch_by, fetch_onto, all_onto, needed_onto, arguments_onto}
+use Rattle.ec_expressions.specs.Emitting.{is_own_by, fetch_by, fetch_onto, all_onto, needed_onto, arguments_onto}
 use Rattle.ec_expressions.specs.Emitting.{links_onto}
-use Rattle.ec_expressions.specs.Emitting.{stop_if, makes, left_code, over_operand, compares_over, needs_no_code, is_test}
+use Rattle.ec_expressions.specs.Emitting.{stop_if, makes, left_code, compares_over, is_test}
 use Rattle.ec_expressions.specs.Emitting.{steps_in, code_onto}
 use Rattle.ec_expressions.specs.Emitting.{compared_in, condition_in}
 use Rattle.ec_expressions.specs.declared.emitter.Emitter.{Emitter}
 use Rattle.ec_meaning.specs.Programs.{line, name_number}
 use Rattle.ec_meaning.specs.Steps.{stop_of}
-use Rattle.ec_emission.specs.Leaves.{Leaf, temporary}
+use Rattle.ec_emission.specs.Leaves.{temporary}
 use Rattle.ec_emission.specs.Rows.{rest_row, own_row}
 use Rattle.ec_world.specs.declared.stop.Order.{Order}
 use Rattle.ec_world.specs.declared.stop.Stop.TheVariants as stop
@@ -56,22 +55,11 @@ module _ (how : Comparison) (x y : Emitted) (h : ℕ) where
   abbrev decides : Operand → List Op
   decides left = op.Decide (variable.Temporary h) (test_of how left (pair_second y h)) (wanted_of how) ∷ []
 
-  paired : (l : Option Leaf) (old : List Op) →
-      left_code x (is_leaf l) h ++ (left_code y true (suc h) ++ (decides (over_operand (operand_of x h) l h) ++ old))
-      ≡ ((first_code x l h ++ operand_code y (suc h)) ++ decides (first_operand x l h)) ++ old
-  paired None old = three (x.code h) (operand_code y (suc h)) (decides (temporary h)) old
-  paired (Some r) old = three (operand_code x h) (operand_code y (suc h)) (decides (operand_of x h)) old
-
   compared : (o : Option Order) (old : List Op) →
-      left_code x (needs_no_code (is_test o) y.leaf) h
-      ++ (left_code y (is_test o) (suc h) ++ (compares_over how o (operand_of x h) y h ++ old))
+      left_code x (is_test o) h ++ (left_code y (is_test o) (suc h) ++ (compares_over how o (operand_of x h) y h ++ old))
       ≡ (comparison how x y o).code h ++ old
-  compared None old = paired y.leaf old
+  compared None old = three (operand_code x h) (operand_code y (suc h)) (decides (operand_of x h)) old
   compared (Some o) old = right_three (x.code h) (y.code (suc h)) (stops_at (stop.Compare o) h 2 boolean) old
-
--- a comparison as a condition
-abbrev conditioned : List Op → Test → Bool → Condition
-conditioned code asks wanted = record { code = code; asks = asks; wanted = wanted }
 
 module _ (m : Emitter) (how : Comparison) (left right : Expression) (h : ℕ) where
   abbrev left_one : Emitted
@@ -80,17 +68,9 @@ module _ (m : Emitter) (how : Comparison) (left right : Expression) (h : ℕ) wh
   abbrev right_one : Emitted
   right_one = emitted_by m right
 
-  by_leaf : (l : Option Leaf) →
-      conditioned (first_code left_one l h ++ operand_code right_one (suc h))
-      (test_of how (first_operand left_one l h) (pair_second right_one h)) (wanted_of how)
-      ≡ conditioned (left_code left_one (is_leaf l) h ++ left_code right_one true (suc h))
-      (test_of how (over_operand (operand_of left_one h) l h) (pair_second right_one h)) (wanted_of how)
-  by_leaf None = refl
-  by_leaf (Some r) = refl
-
   decided_at : (o : Option Order) →
       (comparison how left_one right_one o).condition h ≡ compared_in m o (comparison how left_one right_one o) how left right h
-  decided_at None = by_leaf right_one.leaf
+  decided_at None = refl
   decided_at (Some o) = refl
 
 module _ (m : Emitter) where

@@ -9,25 +9,19 @@ use Rattle.ec_ast.specs.declared.Multiplicative.TheVariants as product
 use Rattle.ec_code.specs.declared.code.Arithmetic.{Arithmetic}
 use Rattle.ec_code.specs.declared.code.Arithmetic.TheVariants as arithmetic
 use Rattle.ec_code.specs.declared.code.Op.{Op}
-use Rattle.ec_code.specs.declared.code.Op.TheVariants as op
 use Rattle.ec_code.specs.declared.code.Operand.{Operand}
-use Rattle.ec_code.specs.declared.code.Test.TheVariants as test
-use Rattle.ec_code.specs.declared.code.Variable.TheVariants as variable
 use Rattle.ec_core.specs.declared.Addend.{Addend, out-Addend}
 use Rattle.ec_core.specs.declared.Factor.{Factor, out-Factor}
-use Rattle.ec_emission.specs.Expressions.{Emitted, Applied, operand_of, operand_code, code_or, first_code, first_operand}
-use Rattle.ec_emission.specs.Expressions.{pair_second}
+use Rattle.ec_emission.specs.Expressions.{Emitted, Applied, operand_of, operand_code, code_or}
 use Rattle.ec_emission.specs.Expressions.{calculated, divided, joined, multiplied, applied_code, kept}
 use Rattle.ec_expressions.proofs.Parts.{addend_is, factor_is}
-use Rattle.ec_expressions.specs.Emitting.{source_by, emitted_by, addend_by, factor_by, is_leaf, needs_no_code, over_operand}
+use Rattle.ec_expressions.specs.Emitting.{source_by, emitted_by, addend_by, factor_by, is_leaf, needs_no_code}
 use Rattle.ec_expressions.specs.Emitting.{left_code}
 use Rattle.ec_expressions.specs.Emitting.{computes_over, divides_over, joins_over, adds, multiplies_over, joins_addend}
 use Rattle.ec_expressions.specs.Emitting.{multiplies_factor, addends_onto, factors_onto, first_joins, first_multiplies}
 use Rattle.ec_expressions.specs.declared.emitter.Emitter.{Emitter}
 use Rattle.ec_meaning.specs.Programs.{line}
 use Rattle.ec_emission.specs.Leaves.{Leaf, temporary}
-use Rattle.ec_emission.specs.Rows.{fail_row}
-use Rattle.ec_world.specs.declared.process.Cause.TheVariants as cause
 
 -- ---- an operand with no code
 
@@ -62,41 +56,27 @@ kept_left false h = refl
 -- ---- one operator
 
 module _ (x y : Emitted) (h : ℕ) where
-  abbrev by_leaf : (last : Operand → List Op) → Option Leaf → Type 0
-  by_leaf last o =
-      (first_code x o h ++ operand_code y (suc h)) ++ last (first_operand x o h)
-      ≡ left_code x (is_leaf o) h ++ (operand_code y (suc h) ++ last (over_operand (operand_of x h) o h))
-
-  paired : (last : Operand → List Op) (o : Option Leaf) → by_leaf last o
-  paired last None = append_assoc (x.code h) (operand_code y (suc h)) (last (temporary h))
-  paired last (Some r) = append_assoc (operand_code x h) (operand_code y (suc h)) (last (operand_of x h))
+  -- behind the code of both
+  paired : (last : List Op) →
+      (operand_code x h ++ operand_code y (suc h)) ++ last ≡ left_code x true h ++ (left_code y true (suc h) ++ last)
+  paired last = append_assoc (operand_code x h) (operand_code y (suc h)) last
 
   pub calculated_is : (how : Arithmetic) →
-      calculated how x y h
-      ≡ left_code x (is_leaf y.leaf) h ++ (left_code y true (suc h) ++ computes_over how (operand_of x h) y h ∷ [])
-  calculated_is how = paired (λ left. op.Compute how (variable.Temporary h) left (pair_second y h) ∷ []) y.leaf
+      calculated how x y h ≡ left_code x true h ++ (left_code y true (suc h) ++ computes_over how (operand_of x h) y h ∷ [])
+  calculated_is how = paired (computes_over how (operand_of x h) y h ∷ [])
 
   pub divided_is : (how : Arithmetic) (at : ℕ) →
-      divided how at x y h
-      ≡ left_code x (is_leaf y.leaf) h ++ (left_code y true (suc h) ++ divides_over how at (operand_of x h) y h)
-  divided_is how at =
-      paired
-      (λ left.
-      op.Branch (test.Divides left (pair_second y h)) true 1
-      ∷ op.Rest (fail_row cause.ZeroDivisor at)
-      ∷ op.Compute how (variable.Temporary h) left (pair_second y h)
-      ∷ []) y.leaf
+      divided how at x y h ≡ left_code x true h ++ (left_code y true (suc h) ++ divides_over how at (operand_of x h) y h)
+  divided_is how at = paired (divides_over how at (operand_of x h) y h)
 
   pub joined_is : (how : Additive) (at : ℕ) →
-      joined how y at x h
-      ≡ left_code x (needs_no_code (adds how) y.leaf) h ++ (left_code y (adds how) (suc h) ++ joins_over how (operand_of x h) y at h)
+      joined how y at x h ≡ left_code x (adds how) h ++ (left_code y (adds how) (suc h) ++ joins_over how (operand_of x h) y at h)
   joined_is Plus at = calculated_is arithmetic.Sum
   joined_is Minus at = calculated_is arithmetic.Difference
   joined_is Concat at = refl
 
   pub multiplied_is : (how : Multiplicative) (at : ℕ) →
-      multiplied how y at x h
-      ≡ left_code x (is_leaf y.leaf) h ++ (left_code y true (suc h) ++ multiplies_over how (operand_of x h) y at h)
+      multiplied how y at x h ≡ left_code x true h ++ (left_code y true (suc h) ++ multiplies_over how (operand_of x h) y at h)
   multiplied_is product.Times at = calculated_is arithmetic.Product
   multiplied_is product.Over at = divided_is arithmetic.Quotient at
   multiplied_is product.Remainder at = divided_is arithmetic.Remainder at
@@ -106,7 +86,7 @@ module _ (x y : Emitted) (h : ℕ) where
 module _ (m : Emitter) where
   one_addend : (a : Addend) (x : Emitted) (h : ℕ) (rest : List Addend) →
       (addend_by m a).code x h
-      ≡ left_code x (first_joins m (a ∷ rest)) h
+      ≡ left_code x (first_joins (a ∷ rest)) h
       ++ (left_code (emitted_by m (out-Addend a).value) (adds (out-Addend a).operator) (suc h)
       ++ joins_addend m a (operand_of x h) h)
   one_addend a x h rest =
@@ -115,7 +95,7 @@ module _ (m : Emitter) where
 
   one_factor : (f : Factor) (x : Emitted) (h : ℕ) (rest : List Factor) →
       (factor_by m f).code x h
-      ≡ left_code x (first_multiplies m (f ∷ rest)) h
+      ≡ left_code x (first_multiplies (f ∷ rest)) h
       ++ (left_code (emitted_by m (out-Factor f).value) true (suc h) ++ multiplies_factor m f (operand_of x h) h)
   one_factor f x h rest =
       ap (λ (b : Applied). b.code x h) (factor_is m f)
@@ -131,14 +111,14 @@ module _ (m : Emitter) where
       ap (λ xs. value ++ (own ++ xs)) (later_addends rest (suc n) left h old)
       ∙ four value own more old
       ∙ ap (λ xs. (xs ++ more) ++ old)
-      (sym (one_addend a kept h rest ∙ ap (λ xs. xs ++ (value ++ own)) (kept_left (first_joins m (a ∷ rest)) h)))
+      (sym (one_addend a kept h rest ∙ ap (λ xs. xs ++ (value ++ own)) (kept_left (first_joins (a ∷ rest)) h)))
 
   pub summed : (ds : List Addend) (x : Emitted) (h : ℕ) (old : List Op) →
-      left_code x (first_joins m ds) h ++ addends_onto m 0 ds (operand_of x h) h old
+      left_code x (first_joins ds) h ++ addends_onto m 0 ds (operand_of x h) h old
       ≡ applied_code (map (addend_by m) ds) x h ++ old
   summed [] x h old = refl
   summed (a ∷ rest) x h old =
-      let left : List Op = left_code x (first_joins m (a ∷ rest)) h in
+      let left : List Op = left_code x (first_joins (a ∷ rest)) h in
       let value : List Op = left_code (emitted_by m (out-Addend a).value) (adds (out-Addend a).operator) (suc h) in
       let own : List Op = joins_addend m a (operand_of x h) h in
       let more : List Op = applied_code (map (addend_by m) rest) kept h in
@@ -156,14 +136,14 @@ module _ (m : Emitter) where
       ap (λ xs. value ++ (own ++ xs)) (later_factors rest (suc n) left h old)
       ∙ four value own more old
       ∙ ap (λ xs. (xs ++ more) ++ old)
-      (sym (one_factor f kept h rest ∙ ap (λ xs. xs ++ (value ++ own)) (kept_left (first_multiplies m (f ∷ rest)) h)))
+      (sym (one_factor f kept h rest ∙ ap (λ xs. xs ++ (value ++ own)) (kept_left (first_multiplies (f ∷ rest)) h)))
 
   pub multiplied_all : (fs : List Factor) (x : Emitted) (h : ℕ) (old : List Op) →
-      left_code x (first_multiplies m fs) h ++ factors_onto m 0 fs (operand_of x h) h old
+      left_code x (first_multiplies fs) h ++ factors_onto m 0 fs (operand_of x h) h old
       ≡ applied_code (map (factor_by m) fs) x h ++ old
   multiplied_all [] x h old = refl
   multiplied_all (f ∷ rest) x h old =
-      let left : List Op = left_code x (first_multiplies m (f ∷ rest)) h in
+      let left : List Op = left_code x (first_multiplies (f ∷ rest)) h in
       let value : List Op = left_code (emitted_by m (out-Factor f).value) true (suc h) in
       let own : List Op = multiplies_factor m f (operand_of x h) h in
       let more : List Op = applied_code (map (factor_by m) rest) kept h in

@@ -1,5 +1,5 @@
 -- What becomes of the parts of a program, over what the code that emits it has.
-use Rattle.std.specs.Prelude.{ℕ, zero, suc, ◌+◌, ◌&&◌, Bool, true, false, if◌then◌else◌, List, [], ◌∷◌, ◌++◌, length}
+use Rattle.std.specs.Prelude.{ℕ, zero, suc, ◌+◌, ◌&&◌, Bool, true, false, List, [], ◌∷◌, ◌++◌, length}
 use Rattle.std.specs.Prelude.{Option, Some, None}
 use Rattle.std.specs.Prelude.{pos, slice_get}
 use Rattle.ec_ast.specs.declared.Additive.{Additive}
@@ -29,7 +29,7 @@ use Rattle.ec_core.specs.declared.Link.{Link, out-Link, fold-Link}
 use Rattle.ec_core.specs.declared.Place.{Place}
 use Rattle.ec_emission.specs.Expressions.{Emitted, Following, Applied, Condition}
 use Rattle.ec_emission.specs.Expressions.{emitted, expression_code, link_code, addend_code, factor_code}
-use Rattle.ec_emission.specs.Expressions.{operand_code, operand_of, pair_second, stops_at, test_of, wanted_of, stop_order}
+use Rattle.ec_emission.specs.Expressions.{operand_code, operand_of, pair_code, pair_second, stops_at, test_of, wanted_of, stop_order}
 use Rattle.ec_emission.specs.Expressions.{fetch, leaf_at, literal_number, builtin_type}
 use Rattle.ec_expressions.specs.declared.conditions.Asked.{Asked}
 use Rattle.ec_expressions.specs.declared.emitter.Emitter.{Emitter}
@@ -87,22 +87,18 @@ is_leaf (Some l) = true
 abbrev pub needs_no_code : Bool → Option Leaf → Bool
 needs_no_code is_operand l = is_operand && is_leaf l
 
--- The operand to the left is held, unless that to the right is a leaf.
-abbrev pub over_operand : Operand → Option Leaf → ℕ → Operand
-over_operand left l h = if is_leaf l then left else temporary h
-
--- the code of a value that is to be held, or of an operand alone
+-- the code of a value in its temporary, or of an operand alone
 abbrev pub left_code : Emitted → Bool → ℕ → List Op
 left_code x true h = operand_code x h
 left_code x false h = x.code h
 
 -- arithmetic on the operand to the left and what is to the right; where it divides, the process fails if the divisor is 0
 abbrev pub computes_over : Arithmetic → Operand → Emitted → ℕ → Op
-computes_over how left y h = op.Compute how (variable.Temporary h) (over_operand left y.leaf h) (pair_second y h)
+computes_over how left y h = op.Compute how (variable.Temporary h) left (pair_second y h)
 
 abbrev pub divides_over : Arithmetic → ℕ → Operand → Emitted → ℕ → List Op
 divides_over how at left y h =
-    op.Branch (test.Divides (over_operand left y.leaf h) (pair_second y h)) true 1
+    op.Branch (test.Divides left (pair_second y h)) true 1
     ∷ op.Rest (fail_row cause.ZeroDivisor at)
     ∷ computes_over how left y h
     ∷ []
@@ -124,7 +120,7 @@ multiplies_over product.Remainder left y at h = divides_over arithmetic.Remainde
 
 abbrev pub compares_over : Comparison → Option Order → Operand → Emitted → ℕ → List Op
 compares_over how None left y h =
-    op.Decide (variable.Temporary h) (test_of how (over_operand left y.leaf h) (pair_second y h)) (wanted_of how) ∷ []
+    op.Decide (variable.Temporary h) (test_of how left (pair_second y h)) (wanted_of how) ∷ []
 compares_over how (Some o) left y h = stops_at (stop.Compare o) h 2 boolean
 
 abbrev pub is_test : Option Order → Bool
@@ -158,20 +154,20 @@ factors_onto m n (f ∷ rest) left h old =
     left_code (emitted_by m (out-Factor f).value) true (suc h)
     ++ (multiplies_factor m f (operand_at n left h) h ++ factors_onto m (suc n) rest left h old)
 
--- whether what stands before the first operator needn't be held
-abbrev pub first_joins_of : Emitter → Option Addend → Bool
-first_joins_of m None = false
-first_joins_of m (Some a) = needs_no_code (adds (out-Addend a).operator) (emitted_by m (out-Addend a).value).leaf
+-- whether what stands before the first operator is an operand alone
+abbrev pub first_joins_of : Option Addend → Bool
+first_joins_of None = false
+first_joins_of (Some a) = adds (out-Addend a).operator
 
-abbrev pub first_joins : Emitter → List Addend → Bool
-first_joins m ds = first_joins_of m (slice_get ds 0)
+abbrev pub first_joins : List Addend → Bool
+first_joins ds = first_joins_of (slice_get ds 0)
 
-abbrev pub first_multiplies_of : Emitter → Option Factor → Bool
-first_multiplies_of m None = false
-first_multiplies_of m (Some f) = is_leaf (emitted_by m (out-Factor f).value).leaf
+abbrev pub first_multiplies_of : Option Factor → Bool
+first_multiplies_of None = false
+first_multiplies_of (Some f) = true
 
-abbrev pub first_multiplies : Emitter → List Factor → Bool
-first_multiplies m fs = first_multiplies_of m (slice_get fs 0)
+abbrev pub first_multiplies : List Factor → Bool
+first_multiplies fs = first_multiplies_of (slice_get fs 0)
 
 -- ---- by the form of an expression
 
@@ -336,13 +332,13 @@ parts_onto m _ h old = old
 -- the parts of one that is
 abbrev pub operands_onto : Emitter → AnExpression → ℕ → List Op → List Op
 operands_onto m (Expression-F.Term first factors) h old =
-    left_code (emitted_by m first) (first_multiplies m factors) h
+    left_code (emitted_by m first) (first_multiplies factors) h
     ++ factors_onto m 0 factors (operand_of (emitted_by m first) h) h old
 operands_onto m (Expression-F.Sum first addends) h old =
-    left_code (emitted_by m first) (first_joins m addends) h
+    left_code (emitted_by m first) (first_joins addends) h
     ++ addends_onto m 0 addends (operand_of (emitted_by m first) h) h old
 operands_onto m (Expression-F.Compare left how what right) h old =
-    left_code (emitted_by m left) (needs_no_code (is_test (stop_order how what)) (emitted_by m right).leaf) h
+    left_code (emitted_by m left) (is_test (stop_order how what)) h
     ++ (left_code (emitted_by m right) (is_test (stop_order how what)) (suc h) ++ old)
 operands_onto m (Expression-F.And first more) h old = (emitted_by m first).code h ++ needed_onto m false more h old
 operands_onto m (Expression-F.Or first more) h old = (emitted_by m first).code h ++ needed_onto m true more h old
@@ -361,9 +357,8 @@ truth_asked e h = record { code = operand_code e h; asks = test.Holds (operand_o
 -- what decides a comparison, and any expression, as a condition
 abbrev pub compared_in : Emitter → Option Order → Emitted → Comparison → Expression → Expression → ℕ → Condition
 compared_in m None e how left right h = record {
-  code = left_code (emitted_by m left) (is_leaf (emitted_by m right).leaf) h ++ left_code (emitted_by m right) true (suc h);
-  asks =
-      test_of how (over_operand (operand_of (emitted_by m left) h) (emitted_by m right).leaf h) (pair_second (emitted_by m right) h);
+  code = pair_code (emitted_by m left) (emitted_by m right) h;
+  asks = test_of how (operand_of (emitted_by m left) h) (pair_second (emitted_by m right) h);
   wanted = wanted_of how;
 }
 compared_in m (Some o) e how left right h = truth_asked e h

@@ -44,7 +44,7 @@ impl<'a> Emitter<'a> {
                     let first = self.operand(left.get(), h)?;
                     let second = self.second(right.get(), h)?;
                     Ok(Asked {
-                        test: test_of(*how, self.over(first, right.get(), h), second),
+                        test: test_of(*how, first, second),
                         wanted: wanted_of(*how),
                     })
                 }
@@ -69,7 +69,7 @@ impl<'a> Emitter<'a> {
             Expression::Compare(left, how, what, right) => match stop_order(*how, *what) {
                 None => {
                     self.value(right.get(), true, above(h)?, out)?;
-                    self.value(left.get(), self.is_leaf(right.get()), h, out)
+                    self.value(left.get(), true, h, out)
                 }
                 Some(_) => self.value(x, true, h, out),
             },

@@ -7,7 +7,9 @@ ghost use Rattle.ec_expressions.specs.Emitting as emitting;
 use crate::backward::Backward;
 use crate::emitter::Emitter;
 use crate::leaves::is_own_call;
-use crate::operators::{adds, is_test, operand_at, own_at, stop_order};
+use crate::operators::{
+    adds, first_joins, first_multiplies, is_test, operand_at, own_at, stop_order,
+};
 use crate::rows::{above, further};
 use ec_code::code::{Op, Operand, Test, Variable};
 use ec_core::{Addend, Expression, Factor, Link};
@@ -59,20 +61,19 @@ impl<'a> Emitter<'a> {
             Expression::Term(first, factors) => {
                 let left = self.operand(first.get(), h)?;
                 self.factors(factors.as_slice(), left, h, out)?;
-                let is_operand = self.first_multiplies(factors.as_slice());
+                let is_operand = first_multiplies(factors.as_slice());
                 self.value(first.get(), is_operand, h, out)
             }
             Expression::Sum(first, addends) => {
                 let left = self.operand(first.get(), h)?;
                 self.addends(addends.as_slice(), left, h, out)?;
-                let is_operand = self.first_joins(addends.as_slice());
+                let is_operand = first_joins(addends.as_slice());
                 self.value(first.get(), is_operand, h, out)
             }
             Expression::Compare(left, how, what, right) => {
                 let order = stop_order(*how, *what);
                 self.value(right.get(), is_test(order), above(h)?, out)?;
-                let is_operand = self.needs_no_code(right.get(), is_test(order));
-                self.value(left.get(), is_operand, h, out)
+                self.value(left.get(), is_test(order), h, out)
             }
             Expression::And(first, more) => {
                 self.needed(more.as_slice(), false, h, out)?;
@@ -86,7 +87,7 @@ impl<'a> Emitter<'a> {
         }
     }
 
-    /// A value that is to be held, or an operand alone, which needs no code where it is a leaf.
+    /// A value in its temporary, or an operand alone, which needs no code where it is a leaf.
     #[cycle(expressions)]
     #[tactic(auto, using(crate::proofs::Operands::no_code, crate::proofs::Operands::own_code_of))]
     pub fn value(

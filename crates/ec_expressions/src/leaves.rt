@@ -6,9 +6,8 @@ ghost use Rattle.ec_emission.specs.Expressions as spec;
 ghost use Rattle.ec_expressions.specs.Emitting as emitting;
 
 use crate::emitter::Emitter;
-use crate::operators::adds;
 use ec_code::code::{Operand, Variable};
-use ec_core::{Addend, Expression, Factor, Link, Place};
+use ec_core::{Expression, Link, Place};
 use ec_meaning::types::number_of;
 use std::alloc::AllocError;
 
@@ -132,25 +131,5 @@ impl<'a> Emitter<'a> {
         ensures { result ≡ emitting.needs_no_code is_operand (emitting.emitted_by self.now x.now).leaf }
     {
         is_operand && self.is_leaf(x)
-    }
-
-    /// Whether what stands before the first operator of a sum needn't be held.
-    pub(crate) fn first_joins(&self, addends: &[Addend]) -> bool
-        ensures { result ≡ emitting.first_joins self.now addends.now }
-    {
-        match addends.first() {
-            None => false,
-            Some(a) => self.needs_no_code(&a.value, adds(a.operator)),
-        }
-    }
-
-    /// Whether what stands before the first operator of a product needn't be held.
-    pub(crate) fn first_multiplies(&self, factors: &[Factor]) -> bool
-        ensures { result ≡ emitting.first_multiplies self.now factors.now }
-    {
-        match factors.first() {
-            None => false,
-            Some(f) => self.is_leaf(&f.value),
-        }
     }
 }

@@ -82,6 +82,26 @@ pub(crate) fn is_test(order: Option<Order>) -> bool
     }
 }
 
+/// Whether what stands before the first operator of a sum is an operand alone.
+pub(crate) fn first_joins(addends: &[Addend]) -> bool
+    ensures { result ≡ emitting.first_joins addends.now }
+{
+    match addends.first() {
+        None => false,
+        Some(a) => adds(a.operator),
+    }
+}
+
+/// Whether what stands before the first operator of a product is an operand alone.
+pub(crate) fn first_multiplies(factors: &[Factor]) -> bool
+    ensures { result ≡ emitting.first_multiplies factors.now }
+{
+    match factors.first() {
+        None => false,
+        Some(_) => true,
+    }
+}
+
 /// Whether the link of a number may be an invocation on the own object, where the first one is.
 #[tactic(auto, using(crate::proofs::Firsts::own_first, crate::proofs::Firsts::own_later))]
 pub(crate) fn own_at(n: usize, is_own: bool) -> bool
@@ -103,17 +123,6 @@ pub(crate) fn operand_at(n: usize, left: Operand, h: u32) -> Operand
 }
 
 impl<'a> Emitter<'a> {
-    /// The operand to the left: it is held, unless that to the right is a leaf.
-    pub(crate) fn over(&self, left: Operand, right: &Expression, h: u32) -> Operand
-        ensures { result ≡ emitting.over_operand left (emitting.emitted_by self.now right.now).leaf h }
-    {
-        if self.is_leaf(right) {
-            left
-        } else {
-            Operand::Of(Variable::Temporary(h))
-        }
-    }
-
     /// The operand to the right. The error is a number of more than 31 bits, or one of a variable of more than 32.
     pub(crate) fn second(&self, right: &Expression, h: u32) -> Result<Operand, AllocError>
         ensures { IfOk result (λ o. o ≡ spec.pair_second (emitting.emitted_by self.now right.now) h) }
@@ -136,7 +145,7 @@ impl<'a> Emitter<'a> {
         out.before(Op::Compute {
             how,
             to: Variable::Temporary(h),
-            left: self.over(left, right, h),
+            left,
             right: self.second(right, h)?,
         })
     }
@@ -156,7 +165,7 @@ impl<'a> Emitter<'a> {
     {
         self.compute(how, left, right, h, out)?;
         fail(out, Cause::ZeroDivisor, line)?;
-        let test = Test::Divides(self.over(left, right, h), self.second(right, h)?);
+        let test = Test::Divides(left, self.second(right, h)?);
         out.before(Op::Branch {
             test,
             wanted: true,
@@ -223,7 +232,7 @@ impl<'a> Emitter<'a> {
         match order {
             None => out.before(Op::Decide {
                 to: Variable::Temporary(h),
-                test: test_of(how, self.over(left, right, h), self.second(right, h)?),
+                test: test_of(how, left, self.second(right, h)?),
                 wanted: wanted_of(how),
             }),
             Some(order) => rest(out, Stop::Compare { order }, h, 2, Some(BOOLEAN)),

@@ -22,7 +22,7 @@ use Rattle.ec_core.specs.declared.Place.{Place}
 use Rattle.ec_core.specs.declared.Place.TheVariants as place
 use Rattle.ec_emission.specs.Expressions.{Applied, Condition, Emitted, Following, addend_code, all_code, applied_code, as_leaf, by_code, by_condition}
 use Rattle.ec_emission.specs.Expressions.{calculated, chain, chain_code, code_or, compared_pair, comparison, divided, emitted, expression_code, following_code}
-use Rattle.ec_emission.specs.Expressions.{factor_code, fetch_all, first_code, inverted, itself, joined, leaf_at, link_code, links_code, multiplied}
+use Rattle.ec_emission.specs.Expressions.{factor_code, fetch_all, inverted, itself, joined, leaf_at, link_code, links_code, multiplied}
 use Rattle.ec_emission.specs.Expressions.{needed_code, negated, operand_code, own_call, own_code, pair_code, read, stop_order}
 use Rattle.ec_emission.specs.Leaves.{Leaf, Truth, Nil}
 use Rattle.ec_meaning.specs.Programs.{Source, line}
@@ -67,12 +67,8 @@ module _ (classes : List ClassRec) (number : ℕ) where
   pub operand_fit : (x : Emitted) → FitEmitted x → (h : ℕ) → Fit (operand_code x h)
   operand_fit x k h = code_by (x.code h) x.leaf (k.code h)
 
-  first_fit : (x : Emitted) → FitEmitted x → (leaf : Option Leaf) (h : ℕ) → Fit (first_code x leaf h)
-  first_fit x k None h = k.code h
-  first_fit x k (Some l) h = operand_fit x k h
-
   pair_fit : (x y : Emitted) → FitEmitted x → FitEmitted y → (h : ℕ) → Fit (pair_code x y h)
-  pair_fit x y j k h = both (first_code x y.leaf h) (operand_code y (suc h)) (first_fit x j y.leaf h) (operand_fit y k (suc h))
+  pair_fit x y j k h = both (operand_code x h) (operand_code y (suc h)) (operand_fit x j h) (operand_fit y k (suc h))
 
   -- ---- values
 

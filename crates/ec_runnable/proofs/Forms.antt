@@ -22,7 +22,7 @@ use Rattle.ec_emission.specs.Expressions.{comparison}
 use Rattle.ec_emission.specs.Expressions.{fetch, fetch_all, fits_here, inverted, joined}
 use Rattle.ec_emission.specs.Expressions.{multiplied, negated, operand_of}
 use Rattle.ec_emission.specs.Expressions.{as_leaf, by_code, by_condition, compared_pair}
-use Rattle.ec_emission.specs.Expressions.{pair_first, pair_second, stops_at, then_stop}
+use Rattle.ec_emission.specs.Expressions.{pair_second, stops_at, then_stop}
 use Rattle.ec_core.specs.Literals.{Texts}
 use Rattle.ec_runnable.proofs.Stops.{above, rests, writes_next}
 use Rattle.ec_runnable.proofs.Uses.{AreHeld, IsHeld, Leads, Within, each_joined, each_weaker, lead, nothing, past_code, step, uses}
@@ -83,7 +83,7 @@ comparison_clean how x y None k j =
     condition_held (fits_here x && fits_here y) (compared_pair how x y)
     (λ e hs.
     let p = and_parts (fits_here x) (fits_here y) e in
-    tested (pair hs hs (same hs) x (value x k p.0 hs) y (value y j p.1 (true ∷ hs))) how)
+    tested (pair hs hs (same hs) x (value x k p.0 hs) y (λ b. value y j p.1 (b ∷ hs))) how)
 comparison_clean how x y (Some o) k j =
     held_by None false true (fits_here x && fits_here y) (λ h. x.code h ++ (y.code (suc h) ++ stops_at (stop.Compare o) h 2 boolean))
     (λ e hs.
@@ -97,13 +97,13 @@ pub joined_applies : (how : Additive) (y : Emitted) (at : ℕ) → IsClean y →
     Applies (record { code = joined how y at; fits = fits_here y })
 joined_applies Plus y at k = record {
   code = λ e x hs from within j.
-      computes hs arithmetic.Sum (pair_first x y (length hs)) (pair_second y (length hs))
-      (both (pair hs from within x j y (value y k e (true ∷ hs))));
+      computes hs arithmetic.Sum (operand_of x (length hs)) (pair_second y (length hs))
+      (both (pair hs from within x j y (λ b. value y k e (b ∷ hs))));
 }
 joined_applies Minus y at k = record {
   code = λ e x hs from within j.
-      computes hs arithmetic.Difference (pair_first x y (length hs)) (pair_second y (length hs))
-      (both (pair hs from within x j y (value y k e (true ∷ hs))));
+      computes hs arithmetic.Difference (operand_of x (length hs)) (pair_second y (length hs))
+      (both (pair hs from within x j y (λ b. value y k e (b ∷ hs))));
 }
 joined_applies Concat y at k = record {
   code = λ e x hs from within j.
@@ -115,18 +115,18 @@ pub multiplied_applies : (how : Multiplicative) (y : Emitted) (at : ℕ) → IsC
     Applies (record { code = multiplied how y at; fits = fits_here y })
 multiplied_applies product.Times y at k = record {
   code = λ e x hs from within j.
-      computes hs arithmetic.Product (pair_first x y (length hs)) (pair_second y (length hs))
-      (both (pair hs from within x j y (value y k e (true ∷ hs))));
+      computes hs arithmetic.Product (operand_of x (length hs)) (pair_second y (length hs))
+      (both (pair hs from within x j y (λ b. value y k e (b ∷ hs))));
 }
 multiplied_applies product.Over y at k = record {
   code = λ e x hs from within j.
-      divides hs arithmetic.Quotient at (pair_first x y (length hs)) (pair_second y (length hs))
-      (both (pair hs from within x j y (value y k e (true ∷ hs))));
+      divides hs arithmetic.Quotient at (operand_of x (length hs)) (pair_second y (length hs))
+      (both (pair hs from within x j y (λ b. value y k e (b ∷ hs))));
 }
 multiplied_applies product.Remainder y at k = record {
   code = λ e x hs from within j.
-      divides hs arithmetic.Remainder at (pair_first x y (length hs)) (pair_second y (length hs))
-      (both (pair hs from within x j y (value y k e (true ∷ hs))));
+      divides hs arithmetic.Remainder at (operand_of x (length hs)) (pair_second y (length hs))
+      (both (pair hs from within x j y (λ b. value y k e (b ∷ hs))));
 }
 
 -- ---- and, or

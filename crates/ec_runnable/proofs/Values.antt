@@ -1,5 +1,5 @@
 -- What is shown of the code of an expression: it leads from what is held to its value held above that, and only its stops take values.
-use Rattle.std.proofs.Common.{◌≡◌, ℕ, suc, inl, inr, Bool, true, List, [], ◌∷◌, ◌++◌, length}
+use Rattle.std.proofs.Common.{◌≡◌, ℕ, suc, inl, inr, Bool, true, false, List, [], ◌∷◌, ◌++◌, length}
 use Rattle.std.proofs.Common.{Option, Some, None, refl, sym, ap, subst}
 use Rattle.std.proofs.lemmas.Bool.{and_parts}
 use Rattle.ec_ast.specs.declared.Comparison.{Comparison}
@@ -12,11 +12,11 @@ use Rattle.ec_code.specs.declared.code.Test.{Test}
 use Rattle.ec_code.specs.declared.code.Test.TheVariants as test
 use Rattle.ec_code.specs.declared.code.Variable.{Variable}
 use Rattle.ec_code.specs.declared.code.Variable.TheVariants as variable
-use Rattle.ec_emission.specs.Expressions.{Applied, Condition, Emitted, Following, by_condition, code_or, first_code, first_operand}
-use Rattle.ec_emission.specs.Expressions.{fits_here, holds, operand_code, operand_of, operand_or, pair_code, pair_first, pair_second}
+use Rattle.ec_emission.specs.Expressions.{Applied, Condition, Emitted, Following, by_condition, code_or}
+use Rattle.ec_emission.specs.Expressions.{fits_here, holds, operand_code, operand_of, operand_or, pair_code, pair_second}
 use Rattle.ec_emission.specs.Expressions.{test_of}
 use Rattle.ec_runnable.proofs.Stops.{bare_rests, writes_next}
-use Rattle.ec_runnable.proofs.Uses.{AreHeld, IsHeld, Leads, Within, each_joined, lead, nothing, step, temporaries_in}
+use Rattle.ec_runnable.proofs.Uses.{AreHeld, IsHeld, Leads, Within, each_joined, each_weaker, lead, less, nothing, step, temporaries_in}
 use Rattle.ec_code.specs.Live.{read_by, read_in}
 use Rattle.ec_emission.specs.Rows.{fail_row}
 use Rattle.ec_world.specs.declared.process.Cause.TheVariants as cause
@@ -76,6 +76,26 @@ leaf_held hs (Number z) = tt
 leaf_held hs (Truth b) = tt
 leaf_held hs Nil = tt
 
+-- one more temporary, whether it is held or not
+wider : (b : Bool) (hs : List Bool) → Within hs (b ∷ hs)
+wider true hs d h = inr h
+wider false hs d h = h
+
+-- an operand behind code, and whether it is held in the next temporary
+pub record Kept (ops : List Op) (from hs : List Bool) (a : Operand) : Type 0 where
+  pub is_held : Bool
+  pub code : Leads ops from (is_held ∷ hs)
+  pub held : AreHeld (is_held ∷ hs) (temporaries_in (read_in a))
+
+kept : (hs from : List Bool) → Within hs from → (code : List Op) (leaf : Option Leaf) → Leads code from (true ∷ hs) →
+    Kept (code_or code leaf) from hs (operand_or (length hs) leaf)
+kept hs from within code None k = record { is_held = true; code = k; held = (inl refl, tt) }
+kept hs from within code (Some l) k = record {
+  is_held = false;
+  code = less {hs = hs} {ks = hs} [] from (false ∷ hs) within (λ d h. h) nothing;
+  held = leaf_held (false ∷ hs) l;
+}
+
 -- two operands behind code
 pub record Pair (ops : List Op) (from hs : List Bool) (a b : Operand) : Type 0 where
   pub to : List Bool
@@ -94,27 +114,19 @@ module _ (hs from : List Bool) (within : Within hs from) where
     pub alone : Leaves (operand_code x (length hs)) from hs (read_in (operand_of x (length hs)))
     alone = alone_or (x.code (length hs)) x.leaf k
 
-    pair_or : (code : List Op) (leaf : Option Leaf) → Leads code (true ∷ hs) (true ∷ true ∷ hs) →
-        Pair (first_code x leaf (length hs) ++ code_or code leaf) from hs (first_operand x leaf (length hs))
-        (operand_or (suc (length hs)) leaf)
-    pair_or code None j = record {
-      to = true ∷ true ∷ hs;
-      code = lead (x.code (length hs)) code k j;
-      first = (inr (inl refl), tt);
-      second = (inl refl, tt);
-      all = λ d h. inr (inr h);
-    }
-    pair_or code (Some l) j = record {
-      to = alone.to;
-      code = lead (operand_code x (length hs)) [] alone.code nothing;
-      first = alone.held;
-      second = leaf_held alone.to l;
-      all = alone.all;
-    }
-
-    pub pair : (y : Emitted) → Leads (y.code (suc (length hs))) (true ∷ hs) (true ∷ true ∷ hs) →
-        Pair (pair_code x y (length hs)) from hs (pair_first x y (length hs)) (pair_second y (length hs))
-    pair y j = pair_or (y.code (suc (length hs))) y.leaf j
+    pub pair : (y : Emitted) → ((b : Bool) → Leads (y.code (suc (length hs))) (b ∷ hs) (true ∷ b ∷ hs)) →
+        Pair (pair_code x y (length hs)) from hs (operand_of x (length hs)) (pair_second y (length hs))
+    pair y j =
+        let f = kept hs from within (x.code (length hs)) x.leaf k in
+        let below : List Bool = f.is_held ∷ hs in
+        let s = kept below below (λ d h. h) (y.code (suc (length hs))) y.leaf (j f.is_held) in
+        record {
+          to = s.is_held ∷ below;
+          code = lead (operand_code x (length hs)) (operand_code y (suc (length hs))) f.code s.code;
+          first = each_weaker (IsHeld below) (IsHeld (s.is_held ∷ below)) (wider s.is_held below) _ f.held;
+          second = s.held;
+          all = λ d h. wider s.is_held below d (wider f.is_held hs d h);
+        }
 
 module _ {ops : List Op} {from hs : List Bool} {a b : Operand} (k : Pair ops from hs a b) where
   pub both : Leaves ops from hs (read_in a ++ read_in b)

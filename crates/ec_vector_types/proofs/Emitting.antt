@@ -22,7 +22,7 @@ use Rattle.ec_core.specs.declared.Place.TheVariants as place
 use Rattle.ec_emission.specs.Expressions.{Applied, Condition, Emitted, Following, all_code, applied_code, as_leaf, by_code, by_condition}
 use Rattle.ec_emission.specs.Expressions.{addend_code, emitted, expression_code, factor_code, link_code, stop_order}
 use Rattle.ec_emission.specs.Expressions.{calculated, chain, chain_code, code_or, compared_pair, comparison, divided, fetch_all}
-use Rattle.ec_emission.specs.Expressions.{first_code, following_code, holds, inverted, itself, joined as joined_code, leaf_at, links_code}
+use Rattle.ec_emission.specs.Expressions.{following_code, holds, inverted, itself, joined as joined_code, leaf_at, links_code}
 use Rattle.ec_emission.specs.Expressions.{multiplied, needed_code, negated, operand_code, own_call, own_code, pair_code, read}
 use Rattle.ec_emission.specs.Leaves.{Leaf, Number, Truth, Nil}
 use Rattle.ec_meaning.specs.Programs.{Source, line}
@@ -92,12 +92,8 @@ module _ (W : VectorType → Type 0) where
   pub operand_is : (x : Emitted) → EmittedIs x → (h : ℕ) → Allowed (operand_code x h)
   operand_is x k h = code_by (x.code h) x.leaf (k.code h)
 
-  first_is : (x : Emitted) → EmittedIs x → (leaf : Option Leaf) (h : ℕ) → Allowed (first_code x leaf h)
-  first_is x k None h = k.code h
-  first_is x k (Some l) h = operand_is x k h
-
   pair_is : (x y : Emitted) → EmittedIs x → EmittedIs y → (h : ℕ) → Allowed (pair_code x y h)
-  pair_is x y j k h = both (first_code x y.leaf h) (operand_code y (suc h)) (first_is x j y.leaf h) (operand_is y k (suc h))
+  pair_is x y j k h = both (operand_code x h) (operand_code y (suc h)) (operand_is x j h) (operand_is y k (suc h))
 
   holds_is : (leaf : Option Leaf) (code : ℕ → List Op) → ((h : ℕ) → Allowed (code h)) → (h : ℕ) →
       let c : Condition = holds leaf code h in Allowed c.code
