@@ -11,9 +11,9 @@ use Rattle.ec_code.specs.declared.code.Test.{Test}
 use Rattle.ec_code.specs.declared.code.Variable.{Variable}
 use Rattle.ec_machine_code.specs.declared.homes.Home.{Home}
 use Rattle.ec_machine_code.specs.declared.joined.Joined.{Joined}
-use Rattle.ec_machine_code.specs.declared.joined.Joined.TheVariants.{Asks, Into}
+use Rattle.ec_machine_code.specs.declared.joined.Joined.TheVariants.{Asks, Into, Kept, Tells}
 use Rattle.ec_machine_code.proofs.Direct.{is_joined, left_ending, none_made, nothing_moved, same_ending}
-use Rattle.ec_machine_code.specs.Direct.{asking, further, if_so, into_named, is_unled, joined_before, joined_if, joined_line, joined_of}
+use Rattle.ec_machine_code.specs.Direct.{answered, asking, copying, further, if_so, into_named, is_unled, joined_before, joined_if, joined_line, joined_of}
 use Rattle.ec_machine_code.specs.Direct.{joined_with, laid_by, laid_op, led_far, led_on, led_to, left_out, marked, marked_one, most_led, passed_if}
 use Rattle.ec_machine_code.specs.Lowering.{ending_of, steps_of}
 
@@ -168,6 +168,48 @@ module _ (home : Variable → Home) (code : List Line) (q : ℕ) where
   asking_far t wanted (op.Again back) = refl
   asking_far t wanted (op.Rest row) = refl
 
+  pub answered_far : (o : Op) → steps_of home (answered (led_far code q o)) ≡ steps_of home o
+  answered_far (op.Copy to from) = refl
+  answered_far (op.Literal to index) = refl
+  answered_far (op.Itself to) = refl
+  answered_far (op.Field to field) = refl
+  answered_far (op.SetField field from) = refl
+  answered_far (op.Constant to index) = refl
+  answered_far (op.Compute how to left right) = refl
+  answered_far (op.Decide to u is_true) = refl
+  answered_far (op.Branch u is_true over) = refl
+  answered_far (op.Jump over) = refl
+  answered_far (op.Again back) = refl
+  answered_far (op.Rest row) = refl
+
+  pub copying_far : (x : Variable) (o : Op) → steps_of home (copying x (led_far code q o)) ≡ steps_of home (copying x o)
+  copying_far x (op.Copy to from) = refl
+  copying_far x (op.Literal to index) = refl
+  copying_far x (op.Itself to) = refl
+  copying_far x (op.Field to field) = refl
+  copying_far x (op.SetField field from) = refl
+  copying_far x (op.Constant to index) = refl
+  copying_far x (op.Compute how to left right) = refl
+  copying_far x (op.Decide to u is_true) = refl
+  copying_far x (op.Branch u is_true over) = refl
+  copying_far x (op.Jump over) = refl
+  copying_far x (op.Again back) = refl
+  copying_far x (op.Rest row) = refl
+
+  pub copied_ending : (x : Variable) (o : Op) → ending_of home (copying x o) ≡ ending_of home o
+  copied_ending x (op.Copy to from) = refl
+  copied_ending x (op.Literal to index) = refl
+  copied_ending x (op.Itself to) = refl
+  copied_ending x (op.Field to field) = refl
+  copied_ending x (op.SetField field from) = refl
+  copied_ending x (op.Constant to index) = refl
+  copied_ending x (op.Compute how to left right) = refl
+  copied_ending x (op.Decide to u is_true) = refl
+  copied_ending x (op.Branch u is_true over) = refl
+  copied_ending x (op.Jump over) = refl
+  copied_ending x (op.Again back) = refl
+  copied_ending x (op.Rest row) = refl
+
   -- a truth value that the next step asks for isn't made
   pub left_far :
       (t : Test) (wanted : Bool) (o : Op) → joined_of code q o ≡ Some (Asks t wanted) → steps_of home (left_out (led_far code q o)) ≡ []
@@ -190,6 +232,13 @@ module _ (home : Variable → Home) (code : List Line) (q : ℕ) where
         (t : Test) (wanted : Bool) → joined_before code q ≡ Some (Asks t wanted) → steps_of home (laid_op code q o) ≡ steps_of home o
     question_steps t wanted e = ap (λ b. steps_of home (laid_by b here far)) e ∙ asking_far t wanted o
 
+    pub answered_steps : joined_before code q ≡ Some Tells → steps_of home (laid_op code q o) ≡ steps_of home o
+    answered_steps e = ap (λ b. steps_of home (laid_by b here far)) e ∙ answered_far o
+
+    pub copying_steps :
+        (x : Variable) → joined_before code q ≡ Some (Kept x) → steps_of home (laid_op code q o) ≡ steps_of home (copying x o)
+    copying_steps x e = ap (λ b. steps_of home (laid_by b here far)) e ∙ copying_far x o
+
     pub named_steps :
         (n : ℕ) → joined_before code q ≡ None → joined_of code q o ≡ Some (Into n) →
         steps_of home (laid_op code q o) ≡ steps_of home (into_named n o)
@@ -201,6 +250,17 @@ module _ (home : Variable → Home) (code : List Line) (q : ℕ) where
         steps_of home (laid_op code q o) ≡ []
     asked_steps t wanted e f =
         ap (λ b. steps_of home (laid_by b here far)) e ∙ ap (λ b. steps_of home (laid_by None b far)) f ∙ left_far t wanted o f
+
+    pub telling_steps :
+        joined_before code q ≡ None → joined_of code q o ≡ Some Tells → steps_of home (laid_op code q o) ≡ steps_of home o
+    telling_steps e f =
+        ap (λ b. steps_of home (laid_by b here far)) e ∙ ap (λ b. steps_of home (laid_by None b far)) f ∙ far_steps o
+
+    pub setting_steps :
+        (x : Variable) → joined_before code q ≡ None → joined_of code q o ≡ Some (Kept x) →
+        steps_of home (laid_op code q o) ≡ steps_of home o
+    setting_steps x e f =
+        ap (λ b. steps_of home (laid_by b here far)) e ∙ ap (λ b. steps_of home (laid_by None b far)) f ∙ far_steps o
 
     pub own_steps : joined_before code q ≡ None → joined_of code q o ≡ None → steps_of home (laid_op code q o) ≡ steps_of home o
     own_steps e f =
@@ -214,10 +274,20 @@ module _ (home : Variable → Home) (code : List Line) (q : ℕ) where
         ending_of home (laid_op code q o) ≡ ending_of home (asking t wanted (led_far code q o))
     asking_ending t wanted e = ap (λ b. ending_of home (laid_by b here far)) e
 
+    pub answered_ending :
+        joined_before code q ≡ Some Tells → ending_of home (laid_op code q o) ≡ ending_of home (answered (led_far code q o))
+    answered_ending e = ap (λ b. ending_of home (laid_by b here far)) e
+
+    pub copying_ending :
+        (x : Variable) → joined_before code q ≡ Some (Kept x) → ending_of home (laid_op code q o) ≡ ending_of home (led_far code q o)
+    copying_ending x e = ap (λ b. ending_of home (laid_by b here far)) e ∙ copied_ending x far
+
     pub laid_ending : (k : Option Joined) → ending_of home (laid_by None k (led_far code q o)) ≡ ending_of home (led_far code q o)
     laid_ending None = refl
     laid_ending (Some (Into n)) = same_ending home n far
     laid_ending (Some (Asks t wanted)) = left_ending home far
+    laid_ending (Some Tells) = refl
+    laid_ending (Some (Kept x)) = refl
 
     pub own_ending : joined_before code q ≡ None → ending_of home (laid_op code q o) ≡ ending_of home (led_far code q o)
     own_ending e = ap (λ b. ending_of home (laid_by b here far)) e ∙ laid_ending here

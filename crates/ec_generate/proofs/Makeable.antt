@@ -23,7 +23,7 @@ use Rattle.ec_machine_code.specs.Limits.{HasFewFields, HasLimits, IsSmallOperati
 use Rattle.ec_types.specs.declared.conform.static_type.StaticType.{StaticType}
 use Rattle.ec_machine_code.specs.Frames.{block_words, slots}
 use Rattle.ec_generate.specs.Puts.{CanPutQuestion, CanPutSource}
-use Rattle.ec_generate.proofs.Led.{asking_far, far_into, far_steps, laid_ending, left_far}
+use Rattle.ec_generate.proofs.Led.{answered_far, asking_far, copied_ending, copying_far, far_into, far_steps, laid_ending, left_far}
 use Rattle.ec_generate.specs.Sites.{CanPutAll, CanPutEnding, IsMakeable, home_there, ops_there}
 use Rattle.ec_generate.specs.declared.site.Site.{Site}
 use Rattle.ec_machine_code.specs.Homes.{IsWithin}
@@ -32,14 +32,15 @@ use Rattle.ec_code.specs.Live.{read_by, read_in, reads, writes}
 use Rattle.ec_machine_code.proofs.Direct.{IsDirect, is_joined, joined_there, line_there, nothing_moved, ops_long}
 use Rattle.ec_machine_code.proofs.FineAt.{fine_at}
 use Rattle.ec_machine_code.proofs.Leading.{leads_far, leads_to}
-use Rattle.ec_machine_code.specs.Direct.{asked_for, asking, far_over, into_named, joined_before, joined_of, laid_by, laid_op, led_far}
+use Rattle.ec_machine_code.specs.Direct.{answered, asked_for, asking, copying, far_over, into_named, joined_before, joined_of, laid_by, laid_op, led_far}
 use Rattle.ec_machine_code.specs.declared.joined.Joined.{Joined}
-use Rattle.ec_machine_code.specs.declared.joined.Joined.TheVariants.{Asks, Into}
+use Rattle.ec_machine_code.specs.declared.joined.Joined.TheVariants.{Asks, Into, Kept, Tells}
 use Rattle.ec_machine_code.specs.Fitting.{HomesFit, IsNamedBy}
 use Rattle.ec_machine_code.specs.Layout.{home_of, home_or, ops_of}
 use Rattle.ec_machine_code.specs.Lowering.{branch_by, ending_of, is_there, known, question_of, source_of, steps_of}
 use Rattle.ec_machine_code.specs.declared.step.Question.{Question}
 use Rattle.ec_machine_code.specs.declared.step.Source.{Source}
+use Rattle.ec_machine_code.specs.declared.step.Source.TheVariants as source
 use Rattle.ec_machine_code.specs.declared.step.Step.TheVariants as step
 use Rattle.ec_world.proofs.Related.{all-length}
 use Rattle.ec_world.specs.Same.{is_same_truth}
@@ -153,6 +154,23 @@ module _ (registers : ℕ) (home : Variable → Home) where
     ending_puts line (op.Compute how to left right) fine r = tt
     ending_puts line (op.Decide to t wanted) fine r = tt
 
+    -- one whose answer is yes
+    pub answered_puts :
+        (line : Line) (i : Op) → FineOp d p number o q (drop (suc q) o.code) line.live i → AllHomed (reads i) →
+        CanPutEnding registers (length o.code) q (ending_of home (answered (led_far o.code q i)))
+    answered_puts line (op.Branch t wanted over) fine r = far_within (asked_for t) wanted over line.live fine.2
+    answered_puts line (op.Copy to from) fine r = ending_puts line (op.Copy to from) fine r
+    answered_puts line (op.Literal to index) fine r = ending_puts line (op.Literal to index) fine r
+    answered_puts line (op.Itself to) fine r = ending_puts line (op.Itself to) fine r
+    answered_puts line (op.Field to field) fine r = ending_puts line (op.Field to field) fine r
+    answered_puts line (op.SetField field from) fine r = ending_puts line (op.SetField field from) fine r
+    answered_puts line (op.Constant to index) fine r = ending_puts line (op.Constant to index) fine r
+    answered_puts line (op.Compute how to left right) fine r = ending_puts line (op.Compute how to left right) fine r
+    answered_puts line (op.Decide to u is_true) fine r = ending_puts line (op.Decide to u is_true) fine r
+    answered_puts line (op.Jump over) fine r = ending_puts line (op.Jump over) fine r
+    answered_puts line (op.Again back) fine r = ending_puts line (op.Again back) fine r
+    answered_puts line (op.Rest row) fine r = ending_puts line (op.Rest row) fine r
+
 -- ---- an operation of a program
 
 all_at : {A : Type 0} (P : A → Type 0) (xs : List A) (k : ℕ) (x : A) → All P xs → slice_get xs k ≡ Some x → P x
@@ -226,17 +244,35 @@ module _ (d : Declared) (p : Parts) (fine : Fine d p) (limits : HasLimits p) (re
         let into = homed (suc q) at_once.before.next (Named k) at_once.before.is_next (inr (inl (ap writes at_once.copies_it))) in
         subst (λ i. CanPutAll registers (steps_of home (into_named k i))) (sym at_once.computes) ((into, two.0, two.1), tt)
 
+    -- a variable that is copied where a field would be read
+    copy_put : (q : ℕ) (x : Variable) (line : Line) → slice_get o.code q ≡ Some line → joined_before o.code q ≡ Some (Kept x) →
+        CanPutAll registers (steps_of home (copying x line.op))
+    copy_put zero x line e before = absurd cc
+    copy_put (suc q) x line e before =
+        let j = joined_there o.code q (Kept x) before in
+        let k = j.2 in
+        let same : line ≡ k.before.next = same_Some line k.before.next (sym e ∙ k.before.is_next) in
+        let is : line.op ≡ op.Field k.to k.field = ap (λ (l : Line). l.op) same ∙ k.reads_it in
+        let into = homed (suc q) line k.to e (inr (inl (ap writes is))) in
+        let from = homed q j.0 x j.1 (inl (subst (λ i. IsIn x (reads i)) (sym k.sets) (inl refl))) in
+        subst (λ i. CanPutAll registers (steps_of home (copying x i))) (sym is)
+        (move_puts registers home (is_there (home k.to) (source.Home (home x))) (home k.to) (source.Home (home x)) into from)
+
     laid_put : (q : ℕ) (line : Line) → slice_get o.code q ≡ Some line → CanPutAll registers (steps_of home (laid_op o.code q line.op))
-    laid_put q line e = by (joined_before o.code q) (joined_of o.code q line.op) refl
+    laid_put q line e = by (joined_before o.code q) (joined_of o.code q line.op) refl refl
       where
-        by : (a b : Option Joined) → joined_of o.code q line.op ≡ b →
+        by : (a b : Option Joined) → joined_before o.code q ≡ a → joined_of o.code q line.op ≡ b →
             CanPutAll registers (steps_of home (laid_by a b (led_far o.code q line.op)))
-        by (Some (Into k)) b is = subst (CanPutAll registers) (sym (nothing_moved home k)) tt
-        by (Some (Asks t wanted)) b is = subst (CanPutAll registers) (sym (asking_far home o.code q t wanted line.op)) (own_put q line e)
-        by None None is = subst (CanPutAll registers) (sym (far_steps home o.code q line.op)) (own_put q line e)
-        by None (Some (Into k)) is =
+        by (Some (Into k)) b before is = subst (CanPutAll registers) (sym (nothing_moved home k)) tt
+        by (Some (Asks t wanted)) b before is = subst (CanPutAll registers) (sym (asking_far home o.code q t wanted line.op)) (own_put q line e)
+        by (Some (Kept x)) b before is = subst (CanPutAll registers) (sym (copying_far home o.code q x line.op)) (copy_put q x line e before)
+        by (Some Tells) b before is = subst (CanPutAll registers) (sym (answered_far home o.code q line.op)) (own_put q line e)
+        by None None before is = subst (CanPutAll registers) (sym (far_steps home o.code q line.op)) (own_put q line e)
+        by None (Some (Into k)) before is =
             subst (CanPutAll registers) (sym (far_into home o.code q k line.op)) (named_put q k line e (is_joined o.code q line.op (Into k) is))
-        by None (Some (Asks t wanted)) is = subst (CanPutAll registers) (sym (left_far home o.code q t wanted line.op is)) tt
+        by None (Some (Asks t wanted)) before is = subst (CanPutAll registers) (sym (left_far home o.code q t wanted line.op is)) tt
+        by None (Some Tells) before is = subst (CanPutAll registers) (sym (far_steps home o.code q line.op)) (own_put q line e)
+        by None (Some (Kept x)) before is = subst (CanPutAll registers) (sym (far_steps home o.code q line.op)) (own_put q line e)
 
     steps : (q : ℕ) (i : Op) → slice_get (ops_of o.code) q ≡ Some i → CanPutAll registers (steps_of home i)
     steps q i e =
@@ -265,6 +301,13 @@ module _ (d : Declared) (p : Parts) (fine : Fine d p) (limits : HasLimits p) (re
         CanPutEnding registers (length o.code) q (ending_of home (laid_by a (joined_of o.code q line.op) (led_far o.code q line.op)))
     laid_end q line (Some (Into k)) e before = tt
     laid_end q line (Some (Asks t wanted)) e before = asked_end q line t wanted e before
+    laid_end q line (Some (Kept x)) e before =
+        subst (CanPutEnding registers (length o.code) q) (sym (copied_ending home o.code q x (led_far o.code q line.op)))
+        (ending_puts registers home d p n o operation_fine q line line.op (fine_at d p n o q line operation_fine e)
+        (λ y r. homed q line y e (inl r)))
+    laid_end q line (Some Tells) e before =
+        answered_puts registers home d p n o operation_fine q line line.op (fine_at d p n o q line operation_fine e)
+        (λ x r. homed q line x e (inl r))
     laid_end q line None e before =
         let f = fine_at d p n o q line operation_fine e in
         subst (CanPutEnding registers (length o.code) q) (sym (laid_ending home o.code q line.op (joined_of o.code q line.op)))

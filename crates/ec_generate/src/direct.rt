@@ -327,6 +327,121 @@ fn into(copied_to: Option<u32>) -> Option<Joined>
     }
 }
 
+/// Whether an operand is the number 0.
+fn is_nothing(x: Operand) -> bool
+    ensures { result ≡ spec.is_nothing x }
+{
+    match x {
+        Operand::Number(z) => z == 0,
+        Operand::Of(_) | Operand::Truth(_) | Operand::Nil => false,
+    }
+}
+
+/// The variable that an operand is, where this is asked for.
+fn variable_if(is_asked: bool, x: Operand) -> Option<Variable>
+    ensures { result ≡ spec.variable_if is_asked x }
+{
+    if is_asked { variable_in(x) } else { None }
+}
+
+/// The variable that is other than 0 where a test doesn't come out as wanted.
+fn told_by(test: Test, wanted: bool) -> Option<Variable>
+    ensures { result ≡ spec.told_by test wanted }
+{
+    match test {
+        Test::Same(x, y) => variable_if(wanted && is_nothing(y), x),
+        Test::Holds(_) | Test::Less(..) | Test::LessEqual(..) | Test::Divides(..) => None,
+    }
+}
+
+/// Whether a test is that something can be divided by a variable.
+fn is_divisor(x: Variable, test: Test) -> bool
+    ensures { result ≡ spec.is_divisor x test }
+{
+    match test {
+        Test::Divides(_, Operand::Of(y)) => is_same(x, y),
+        Test::Divides(_, Operand::Number(_) | Operand::Truth(_) | Operand::Nil)
+        | Test::Holds(_)
+        | Test::Same(..)
+        | Test::Less(..)
+        | Test::LessEqual(..) => false,
+    }
+}
+
+/// Whether a step asks whether something can be divided by a variable.
+fn asks_divisor(x: Variable, op: &Op) -> bool
+    ensures { result ≡ spec.asks_divisor x op.now }
+{
+    match op {
+        Op::Branch { test, wanted, .. } => *wanted && is_divisor(x, *test),
+        Op::Copy { .. }
+        | Op::Literal { .. }
+        | Op::Itself { .. }
+        | Op::Field { .. }
+        | Op::SetField { .. }
+        | Op::Constant { .. }
+        | Op::Compute { .. }
+        | Op::Decide { .. }
+        | Op::Jump { .. }
+        | Op::Again { .. }
+        | Op::Rest(_) => false,
+    }
+}
+
+/// A step that asks whether something can be divided by a variable has no question, where this has been told to be other than 0.
+fn tells(told: Option<Variable>, next: &Op) -> Option<Joined>
+    ensures { result ≡ spec.tells told next.now }
+{
+    let x = told?;
+    if asks_divisor(x, next) {
+        Some(Joined::Tells)
+    } else {
+        None
+    }
+}
+
+/// The variable that an operand is.
+fn variable_in(x: Operand) -> Option<Variable>
+    ensures { result ≡ spec.variable_in x }
+{
+    match x {
+        Operand::Of(x) => Some(x),
+        Operand::Number(_) | Operand::Truth(_) | Operand::Nil => None,
+    }
+}
+
+/// Whether a step reads a field.
+fn reads_field(n: u32, op: &Op) -> bool
+    ensures { result ≡ spec.reads_field n op.now }
+{
+    match op {
+        Op::Field { field, .. } => *field == n,
+        Op::Copy { .. }
+        | Op::Literal { .. }
+        | Op::Itself { .. }
+        | Op::SetField { .. }
+        | Op::Constant { .. }
+        | Op::Compute { .. }
+        | Op::Decide { .. }
+        | Op::Branch { .. }
+        | Op::Jump { .. }
+        | Op::Again { .. }
+        | Op::Rest(_) => false,
+    }
+}
+
+/// A step that reads a field copies the variable to which this has been set.
+fn keeps(from: Option<Variable>, n: u32, next: &Op) -> Option<Joined>
+    ensures { result ≡ spec.keeps from n next.now }
+{
+    let x = from?;
+    if reads_field(n, next) {
+        Some(Joined::Kept(x))
+    } else {
+        None
+    }
+}
+
 /// How a step is laid out with the next one, which is at a place.
 fn joined_with(code: &Seq<Line>, place: usize, op: &Op, next: &Op) -> Option<Joined>
     ensures { result ≡ spec.joined_with code.now place op.now next.now }
@@ -347,6 +462,8 @@ fn joined_with(code: &Seq<Line>, place: usize, op: &Op, next: &Op) -> Option<Joi
             };
             unless_live(code, *d, place, asks_by(code, place, *d, asks, next))
         }
+        Op::Branch { test, wanted, .. } => tells(told_by(*test, *wanted), next),
+        Op::SetField { field, from } => keeps(variable_in(*from), *field, next),
         Op::Compute {
             to: Variable::Named(_),
             ..
@@ -359,9 +476,7 @@ fn joined_with(code: &Seq<Line>, place: usize, op: &Op, next: &Op) -> Option<Joi
         | Op::Literal { .. }
         | Op::Itself { .. }
         | Op::Field { .. }
-        | Op::SetField { .. }
         | Op::Constant { .. }
-        | Op::Branch { .. }
         | Op::Jump { .. }
         | Op::Again { .. }
         | Op::Rest(_) => None,

@@ -132,9 +132,29 @@ impl<'a> Site<'a> {
         }
     }
 
+    /// The step on words, by which a variable is copied where a field would be read.
+    fn step_copying(&self, x: Variable, op: &Op) -> Option<Step>
+        ensures { listed result ≡ spec.steps_of (home_there self.now) (direct.copying x op.now) }
+    {
+        match op {
+            Op::Field { to, .. } => moved(self.home(*to), Source::Home(self.home(x))),
+            Op::Copy { .. }
+            | Op::Literal { .. }
+            | Op::Itself { .. }
+            | Op::SetField { .. }
+            | Op::Constant { .. }
+            | Op::Compute { .. }
+            | Op::Decide { .. }
+            | Op::Branch { .. }
+            | Op::Jump { .. }
+            | Op::Again { .. }
+            | Op::Rest(_) => self.step_of(op),
+        }
+    }
+
     /// The step on words for the step at a place, where there is one: none for a copy that is done already, and none for a truth value that
     /// the next step asks for.
-    #[tactic(auto, using(crate::proofs::Led::no_steps, crate::proofs::Led::question_steps, crate::proofs::Led::own_steps, crate::proofs::Led::named_steps, crate::proofs::Led::asked_steps))]
+    #[tactic(auto, using(crate::proofs::Led::no_steps, crate::proofs::Led::question_steps, crate::proofs::Led::answered_steps, crate::proofs::Led::copying_steps, crate::proofs::Led::own_steps, crate::proofs::Led::named_steps, crate::proofs::Led::asked_steps, crate::proofs::Led::telling_steps, crate::proofs::Led::setting_steps))]
     pub(crate) fn step_at(&self, place: usize, op: &Op) -> Option<Step>
         requires led { IsLed self.now }
         requires there { place < length self.now.code.now }
@@ -143,16 +163,20 @@ impl<'a> Site<'a> {
         match self.joined_before(place) {
             Some(Joined::Into(_)) => None,
             Some(Joined::Asks { .. }) => self.step_of(op),
+            Some(Joined::Tells) => self.step_of(op),
+            Some(Joined::Kept(x)) => self.step_copying(x, op),
             None => match self.joined_of(place, op) {
                 Some(Joined::Into(n)) => self.step_into(n, op),
                 Some(Joined::Asks { .. }) => None,
+                Some(Joined::Tells) => self.step_of(op),
+                Some(Joined::Kept(_)) => self.step_of(op),
                 None => self.step_of(op),
             },
         }
     }
 
     /// How the code goes on behind the step at a place, where this isn't the next one.
-    #[tactic(auto, using(crate::proofs::Led::no_ending, crate::proofs::Led::asking_ending, crate::proofs::Led::own_ending))]
+    #[tactic(auto, using(crate::proofs::Led::no_ending, crate::proofs::Led::asking_ending, crate::proofs::Led::answered_ending, crate::proofs::Led::copying_ending, crate::proofs::Led::own_ending))]
     pub(crate) fn ending_at(&self, place: usize, op: &Op) -> Option<Ending>
         requires led { IsLed self.now }
         requires there { place < length self.now.code.now }
@@ -161,6 +185,8 @@ impl<'a> Site<'a> {
         match self.joined_before(place) {
             Some(Joined::Into(_)) => None,
             Some(Joined::Asks { test, wanted }) => self.ending_asking(place, test, wanted, op),
+            Some(Joined::Tells) => self.ending_answered(place, op),
+            Some(Joined::Kept(_)) => self.ending_of(place, op),
             None => self.ending_of(place, op),
         }
     }
@@ -175,6 +201,29 @@ impl<'a> Site<'a> {
                 let over = far_branch(self.code, place, *test, *wanted, *over);
                 branch(self.question_of(asked, comes_out(*wanted, expected)), over)
             }
+            Op::Jump { .. }
+            | Op::Again { .. }
+            | Op::Rest(_)
+            | Op::Copy { .. }
+            | Op::Literal { .. }
+            | Op::Itself { .. }
+            | Op::Field { .. }
+            | Op::SetField { .. }
+            | Op::Constant { .. }
+            | Op::Compute { .. }
+            | Op::Decide { .. } => self.ending_of(place, op),
+        }
+    }
+
+    /// How the code goes on behind the step at a place, where this isn't the next one, and where the answer is yes if it is a question.
+    fn ending_answered(&self, place: usize, op: &Op) -> Option<Ending>
+        ensures { result ≡ spec.ending_of (home_there self.now)
+            (direct.answered (direct.led_far self.now.code.now place op.now)) }
+    {
+        match op {
+            Op::Branch { test, wanted, over } => Some(Ending::Jump {
+                over: far_branch(self.code, place, *test, *wanted, *over),
+            }),
             Op::Jump { .. }
             | Op::Again { .. }
             | Op::Rest(_)

@@ -1,8 +1,8 @@
 -- Which steps are laid out, and what is so of a result that goes at once to where it is copied.
 use Rattle.std.proofs.Common.{◌≡◌, ◌≢◌, ℕ, zero, suc, ◌+◌, ◌<◌, List, [], ◌∷◌, length, map, replicate, Option, Some, None, refl, sym, ap}
-use Rattle.std.proofs.Common.{◌∙◌, subst, arith, Bool, true, false, cond, inl, inr, ⊎_elim}
+use Rattle.std.proofs.Common.{ap₂, ◌∙◌, ◌&&◌, ℤ, subst, arith, Bool, true, false, cond, eqb-true, inl, inr, ⊎_elim}
 use Rattle.std.specs.Prelude.{slice_get, slice_set, ◌==◌}
-use Rattle.std.proofs.lemmas.Bool.{cases_eq}
+use Rattle.std.proofs.lemmas.Bool.{and_parts, cases_eq}
 use Rattle.std.proofs.lemmas.Bool.Decides.{nat_tests}
 use Rattle.std.proofs.lemmas.Option.{same_Some}
 use Rattle.ec_base.proofs.Lists.{get_set_other, get_set_same, get_within, length_set}
@@ -24,14 +24,16 @@ use Rattle.ec_machine_code.specs.Stops.{stop_of}
 use Rattle.ec_machine_code.specs.declared.homes.Home.{Home}
 use Rattle.ec_machine_code.specs.declared.homes.Home.TheVariants.{Register, Slot}
 use Rattle.ec_code.proofs.Among.{in_among, same_is}
-use Rattle.ec_machine_code.specs.Direct.{asked_for, asking, asks_by, copied_from, copied_to, done_already, far_over, if_so, into, into_named}
-use Rattle.ec_machine_code.specs.Direct.{is_known, is_live, is_unled, joined_at, joined_before, joined_if, joined_line, joined_of, joined_with}
-use Rattle.ec_machine_code.specs.Direct.{laid_by, laid_from, laid_op, led_far, led_to, left_out, marked, marked_one, unless}
+use Rattle.ec_machine_code.specs.Direct.{answered, asked_for, asking, asks_by, asks_divisor, copied_from, copied_to, copying, done_already}
+use Rattle.ec_machine_code.specs.Direct.{far_over, if_so, into, into_named, is_divisor, is_known, is_live, is_nothing, is_unled, joined_at, joined_before}
+use Rattle.ec_machine_code.specs.Direct.{joined_if, joined_line, joined_of, joined_with, keeps, laid_by, laid_from, laid_op, led_far, led_to}
+use Rattle.ec_machine_code.specs.Direct.{left_out, marked, marked_one, reads_field, tells, told_by, unless, variable_if, variable_in}
 use Rattle.ec_machine_code.specs.declared.joined.Joined.{Joined}
-use Rattle.ec_machine_code.specs.declared.joined.Joined.TheVariants.{Asks, Into}
+use Rattle.ec_machine_code.specs.declared.joined.Joined.TheVariants.{Asks, Into, Kept, Tells}
 use Rattle.ec_machine_code.specs.Layout.{ops_of}
 use Rattle.ec_machine_code.specs.Lowering.{ending_of, is_same_home, steps_of}
 use Rattle.ec_machine_code.specs.declared.step.Source.TheVariants as source
+use Rattle.ec_world.specs.Same.{is_zero}
 use Rattle.ec_machine_code.specs.declared.step.Step.{Step}
 use Rattle.ec_machine_code.specs.declared.step.Step.TheVariants as step
 
@@ -282,9 +284,31 @@ pub record IsAsked (code : List Line) (q : ℕ) (o : Op) (t : Test) (wanted : Bo
   pub dead_far :
       IsDead code (suc (suc q + far_over code (Some (Temporary temporary)) is_true (suc q) over)) (Temporary temporary)
 
+-- a question for a divisor that the question before it has told to be other than 0
+pub record IsTold (code : List Line) (q : ℕ) (o : Op) : Type 0 where
+  pub divisor : Variable
+  pub zero : ℤ
+  pub at_zero : is_zero zero ≡ true
+  pub over : ℕ
+  pub asks : o ≡ op.Branch (test.Same (operand.Of divisor) (operand.Number zero)) true over
+  pub before : HasNext code q
+  pub left : Operand
+  pub past : ℕ
+  pub divides : before.next.op ≡ op.Branch (test.Divides left (operand.Of divisor)) true past
+
+-- a field that is read where the step before has set it to a variable
+pub record IsKept (code : List Line) (q : ℕ) (o : Op) (x : Variable) : Type 0 where
+  pub field : ℕ
+  pub sets : o ≡ op.SetField field (operand.Of x)
+  pub before : HasNext code q
+  pub to : Variable
+  pub reads_it : before.next.op ≡ op.Field to field
+
 abbrev pub IsJoined : List Line → ℕ → Op → Joined → Type 0
 IsJoined code q o (Into n) = IsDirect code q o n
 IsJoined code q o (Asks t wanted) = IsAsked code q o t wanted
+IsJoined code q o Tells = IsTold code q o
+IsJoined code q o (Kept x) = IsKept code q o x
 
 live_among : (ls : List Live) (x : Variable) (t : StaticType) → Has ls x t → IsIn x (map (λ l. l.variable) ls)
 live_among [] x t h = absurd h
@@ -344,6 +368,105 @@ asks_next code p d given j (op.Jump over) e = absurd cc
 asks_next code p d given j (op.Again back) e = absurd cc
 asks_next code p d given j (op.Rest row) e = absurd cc
 
+-- ---- what a question tells
+
+so_variable : (b : Bool) (o : Operand) (x : Variable) → variable_if b o ≡ Some x → (b ≡ true) × (o ≡ operand.Of x)
+so_variable true (operand.Of y) x e = (refl, ap operand.Of (same_Some y x e))
+so_variable true (operand.Number z) x e = absurd cc
+so_variable true (operand.Truth b) x e = absurd cc
+so_variable true operand.Nil x e = absurd cc
+so_variable false o x e = absurd cc
+
+nothing_so : (o : Operand) → is_nothing o ≡ true → (z : ℤ) × (is_zero z ≡ true) × (o ≡ operand.Number z)
+nothing_so (operand.Number z) e = (z, e, refl)
+nothing_so (operand.Of x) e = absurd cc
+nothing_so (operand.Truth b) e = absurd cc
+nothing_so operand.Nil e = absurd cc
+
+-- the test that tells that a variable is other than 0
+pub record IsTest (t : Test) (wanted : Bool) (x : Variable) : Type 0 where
+  pub zero : ℤ
+  pub at_zero : is_zero zero ≡ true
+  pub wanted_so : wanted ≡ true
+  pub tests : t ≡ test.Same (operand.Of x) (operand.Number zero)
+
+told_so : (t : Test) (wanted : Bool) (x : Variable) → told_by t wanted ≡ Some x → IsTest t wanted x
+told_so (test.Same left right) wanted x e =
+    let a = so_variable (wanted && is_nothing right) left x e in
+    let b = and_parts wanted (is_nothing right) a.0 in
+    let c = nothing_so right b.1 in
+    record { zero = c.0; at_zero = c.1; wanted_so = b.0; tests = ap₂ test.Same a.1 c.2 }
+told_so (test.Holds y) wanted x e = absurd cc
+told_so (test.Less y z) wanted x e = absurd cc
+told_so (test.LessEqual y z) wanted x e = absurd cc
+told_so (test.Divides y z) wanted x e = absurd cc
+
+divisor_so : (x : Variable) (t : Test) → is_divisor x t ≡ true → (left : Operand) × (t ≡ test.Divides left (operand.Of x))
+divisor_so x (test.Divides left (operand.Of y)) e = (left, ap (λ i. test.Divides left (operand.Of i)) (sym (same_is x y e)))
+divisor_so x (test.Divides left (operand.Number z)) e = absurd cc
+divisor_so x (test.Divides left (operand.Truth b)) e = absurd cc
+divisor_so x (test.Divides left operand.Nil) e = absurd cc
+divisor_so x (test.Holds y) e = absurd cc
+divisor_so x (test.Same y z) e = absurd cc
+divisor_so x (test.Less y z) e = absurd cc
+divisor_so x (test.LessEqual y z) e = absurd cc
+
+-- a question for it
+abbrev AsksDivisor : Variable → Op → Type 0
+AsksDivisor x o = (left : Operand) × (past : ℕ) × (o ≡ op.Branch (test.Divides left (operand.Of x)) true past)
+
+asks_so : (x : Variable) (o : Op) → asks_divisor x o ≡ true → AsksDivisor x o
+asks_so x (op.Branch t wanted over) e =
+    let a = and_parts wanted (is_divisor x t) e in
+    let b = divisor_so x t a.1 in
+    (b.0, over, ap₂ (λ u w. op.Branch u w over) b.1 a.0)
+asks_so x (op.Copy to from) e = absurd cc
+asks_so x (op.Literal to index) e = absurd cc
+asks_so x (op.Itself to) e = absurd cc
+asks_so x (op.Field to field) e = absurd cc
+asks_so x (op.SetField field from) e = absurd cc
+asks_so x (op.Constant to index) e = absurd cc
+asks_so x (op.Compute how to left right) e = absurd cc
+asks_so x (op.Decide to u is_true) e = absurd cc
+asks_so x (op.Jump over) e = absurd cc
+asks_so x (op.Again back) e = absurd cc
+asks_so x (op.Rest row) e = absurd cc
+
+tells_so : (o : Option Variable) (next : Op) (j : Joined) → tells o next ≡ Some j →
+    (x : Variable) × (o ≡ Some x) × AsksDivisor x next × (j ≡ Tells)
+tells_so None next j e = absurd cc
+tells_so (Some x) next j e =
+    let a = so_some (asks_divisor x next) (Some Tells) j e in (x, refl, asks_so x next a.0, sym (same_Some Tells j a.1))
+
+-- ---- what a field keeps
+
+variable_so : (o : Operand) (x : Variable) → variable_in o ≡ Some x → o ≡ operand.Of x
+variable_so (operand.Of y) x e = ap operand.Of (same_Some y x e)
+variable_so (operand.Number z) x e = absurd cc
+variable_so (operand.Truth b) x e = absurd cc
+variable_so operand.Nil x e = absurd cc
+
+reads_so : (n : ℕ) (o : Op) → reads_field n o ≡ true → (to : Variable) × (o ≡ op.Field to n)
+reads_so n (op.Field to field) e = (to, ap (op.Field to) (eqb-true field n e))
+reads_so n (op.Copy to from) e = absurd cc
+reads_so n (op.Literal to index) e = absurd cc
+reads_so n (op.Itself to) e = absurd cc
+reads_so n (op.SetField field from) e = absurd cc
+reads_so n (op.Constant to index) e = absurd cc
+reads_so n (op.Compute how to left right) e = absurd cc
+reads_so n (op.Decide to u is_true) e = absurd cc
+reads_so n (op.Branch u is_true over) e = absurd cc
+reads_so n (op.Jump over) e = absurd cc
+reads_so n (op.Again back) e = absurd cc
+reads_so n (op.Rest row) e = absurd cc
+
+keeps_so : (o : Option Variable) (n : ℕ) (next : Op) (j : Joined) → keeps o n next ≡ Some j →
+    (x : Variable) × (o ≡ Some x) × (to : Variable) × (next ≡ op.Field to n) × (j ≡ Kept x)
+keeps_so None n next j e = absurd cc
+keeps_so (Some x) n next j e =
+    let a = so_some (reads_field n next) (Some (Kept x)) j e in
+    let b = reads_so n next a.0 in (x, refl, b.0, b.1, sym (same_Some (Kept x) j a.1))
+
 module _ (code : List Line) (q : ℕ) (h : HasNext code q) (j : Joined) where
   computed_once :
       (how : Arithmetic) (d : ℕ) (left right : Operand) →
@@ -382,6 +505,37 @@ module _ (code : List Line) (q : ℕ) (h : HasNext code q) (j : Joined) where
         dead_far = b.dead_far;
       })
 
+  told_once :
+      (t : Test) (wanted : Bool) (over : ℕ) → joined_with code (suc q) (op.Branch t wanted over) h.next.op ≡ Some j →
+      IsJoined code q (op.Branch t wanted over) j
+  told_once t wanted over e =
+      let a = tells_so (told_by t wanted) h.next.op j e in
+      let b = told_so t wanted a.0 a.1 in
+      let asks = ap₂ (λ u w. op.Branch u w over) b.tests b.wanted_so in
+      subst (IsJoined code q (op.Branch t wanted over)) (sym a.3) (record {
+        divisor = a.0;
+        zero = b.zero;
+        at_zero = b.at_zero;
+        over = over;
+        asks = asks;
+        before = h;
+        left = a.2.0;
+        past = a.2.1;
+        divides = a.2.2;
+      })
+
+  kept_once :
+      (n : ℕ) (from : Operand) → joined_with code (suc q) (op.SetField n from) h.next.op ≡ Some j → IsJoined code q (op.SetField n from) j
+  kept_once n from e =
+      let a = keeps_so (variable_in from) n h.next.op j e in
+      subst (IsJoined code q (op.SetField n from)) (sym a.4) (record {
+        field = n;
+        sets = ap (op.SetField n) (variable_so from a.0 a.1);
+        before = h;
+        to = a.2;
+        reads_it = a.3;
+      })
+
   joined_so : (o : Op) → joined_with code (suc q) o h.next.op ≡ Some j → IsJoined code q o j
   joined_so (op.Compute how (Temporary d) left right) e = computed_once how d left right e
   joined_so (op.Decide (Temporary d) t wanted) e = decided_once d t wanted e
@@ -391,9 +545,9 @@ module _ (code : List Line) (q : ℕ) (h : HasNext code q) (j : Joined) where
   joined_so (op.Literal to index) e = absurd cc
   joined_so (op.Itself to) e = absurd cc
   joined_so (op.Field to field) e = absurd cc
-  joined_so (op.SetField field from) e = absurd cc
+  joined_so (op.SetField field from) e = kept_once field from e
   joined_so (op.Constant to index) e = absurd cc
-  joined_so (op.Branch t wanted over) e = absurd cc
+  joined_so (op.Branch t wanted over) e = told_once t wanted over e
   joined_so (op.Jump over) e = absurd cc
   joined_so (op.Again back) e = absurd cc
   joined_so (op.Rest row) e = absurd cc
@@ -413,6 +567,8 @@ is_joined code q o j e =
 pub next_of : (code : List Line) (q : ℕ) (o : Op) (j : Joined) → IsJoined code q o j → HasNext code q
 next_of code q o (Into n) h = h.before
 next_of code q o (Asks t wanted) h = h.before
+next_of code q o Tells h = h.before
+next_of code q o (Kept x) h = h.before
 
 -- of the step at a place
 pub joined_there :
@@ -475,6 +631,9 @@ stop_rests (op.Again back) row e = absurd cc
 rest_no_copy : (row : StopRow) (d n : ℕ) → op.Rest row ≢ op.Copy (Named n) (operand.Of (Temporary d))
 rest_no_copy row d n e = cc
 
+rest_no_field : (row : StopRow) (to : Variable) (field : ℕ) → op.Rest row ≢ op.Field to field
+rest_no_field row to field e = cc
+
 rest_no_question : (row : StopRow) (t : Test) (wanted : Bool) (over : ℕ) → op.Rest row ≢ op.Branch t wanted over
 rest_no_question row t wanted over e = cc
 
@@ -496,6 +655,11 @@ rest_alone code (suc q) line row e rests = by (joined_at code q) refl
     by (Some (Asks t wanted)) is =
         let d = (joined_there code q (Asks t wanted) is).2 in
         absurd (rest_no_question row (test.Holds (operand.Of (Temporary d.temporary))) d.is_true d.over (sym (there d.before) ∙ d.asks_it))
+    by (Some Tells) is =
+        let d = (joined_there code q Tells is).2 in
+        absurd (rest_no_question row (test.Divides d.left (operand.Of d.divisor)) true d.past (sym (there d.before) ∙ d.divides))
+    by (Some (Kept x)) is =
+        let d = (joined_there code q (Kept x) is).2 in absurd (rest_no_field row d.to d.field (sym (there d.before) ∙ d.reads_it))
 
 pub rest_laid :
     (code : List Line) (q : ℕ) (line : Line) (row : StopRow) → slice_get code q ≡ Some line → stop_of line.op ≡ Some row →
@@ -550,11 +714,43 @@ asking_rests t wanted (op.Branch u is_true over) row e = absurd cc
 asking_rests t wanted (op.Jump over) row e = absurd cc
 asking_rests t wanted (op.Again back) row e = absurd cc
 
+answered_rests : (o : Op) (row : StopRow) → answered o ≡ op.Rest row → o ≡ op.Rest row
+answered_rests (op.Branch u is_true over) row e = absurd cc
+answered_rests (op.Copy to from) row e = absurd cc
+answered_rests (op.Literal to index) row e = absurd cc
+answered_rests (op.Itself to) row e = absurd cc
+answered_rests (op.Field to field) row e = absurd cc
+answered_rests (op.SetField field from) row e = absurd cc
+answered_rests (op.Constant to index) row e = absurd cc
+answered_rests (op.Compute how to left right) row e = absurd cc
+answered_rests (op.Decide to u is_true) row e = absurd cc
+answered_rests (op.Jump over) row e = absurd cc
+answered_rests (op.Again back) row e = absurd cc
+answered_rests (op.Rest r) row e = e
+
+copying_rests : (x : Variable) (o : Op) (row : StopRow) → copying x o ≡ op.Rest row → o ≡ op.Rest row
+copying_rests x (op.Copy to from) row e = absurd cc
+copying_rests x (op.Literal to index) row e = absurd cc
+copying_rests x (op.Itself to) row e = absurd cc
+copying_rests x (op.Field to field) row e = absurd cc
+copying_rests x (op.SetField field from) row e = absurd cc
+copying_rests x (op.Constant to index) row e = absurd cc
+copying_rests x (op.Compute how to left right) row e = absurd cc
+copying_rests x (op.Decide to u is_true) row e = absurd cc
+copying_rests x (op.Branch u is_true over) row e = absurd cc
+copying_rests x (op.Jump over) row e = absurd cc
+copying_rests x (op.Again back) row e = absurd cc
+copying_rests x (op.Rest r) row e = e
+
 laid_rests : (a b : Option Joined) (o : Op) (row : StopRow) → laid_by a b o ≡ op.Rest row → o ≡ op.Rest row
 laid_rests (Some (Into n)) b o row e = absurd cc
 laid_rests (Some (Asks t wanted)) b o row e = asking_rests t wanted o row e
+laid_rests (Some Tells) b o row e = answered_rests o row e
+laid_rests (Some (Kept x)) b o row e = copying_rests x o row e
 laid_rests None (Some (Into n)) o row e = into_rests n o row e
 laid_rests None (Some (Asks t wanted)) o row e = left_rests o row e
+laid_rests None (Some Tells) o row e = e
+laid_rests None (Some (Kept x)) o row e = e
 laid_rests None None o row e = e
 
 far_rests : (code : List Line) (q : ℕ) (o : Op) (row : StopRow) → led_far code q o ≡ op.Rest row → o ≡ op.Rest row

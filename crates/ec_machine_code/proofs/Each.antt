@@ -6,7 +6,7 @@ use Rattle.std.specs.Prelude.{slice_get}
 use Rattle.std.proofs.lemmas.Bool.Decides.{nat_tests}
 use Rattle.ec_base.proofs.Lists.{get_within}
 use Rattle.ec_code.specs.Fine.{FineOperand, Has, Passes, Writes, live_at}
-use Rattle.ec_code.specs.Steps.{Machine, computed, on_numbers, on_two, operand_at, own_field, with_field, with_variable}
+use Rattle.ec_code.specs.Steps.{Machine, computed, on_numbers, on_two, operand_at, own_field, variable_at, with_field, with_variable}
 use Rattle.ec_code.specs.declared.code.Arithmetic.{Arithmetic}
 use Rattle.ec_code.specs.declared.code.Live.{Live}
 use Rattle.ec_code.specs.declared.code.Op.{Op}
@@ -33,9 +33,9 @@ use Rattle.ec_machine_code.specs.declared.step.Step.TheVariants as step
 use Rattle.ec_world.specs.Words.{StandsFor}
 use Rattle.ec_world.specs.declared.value.Value.{Value}
 use Rattle.ec_world.specs.declared.value.Value.TheVariants.{Str, Ref, Bool as Truth}
-use Rattle.ec_machine_code.proofs.Operands.{Asked, Found, found_is, holds_live}
+use Rattle.ec_machine_code.proofs.Operands.{Asked, Found, found_is, found_variable, holds_live}
 use Rattle.ec_machine_code.proofs.Sites.{At, Site, flows_next, line_of, named, next_live, passes_next, there_next}
-use Rattle.ec_machine_code.proofs.Standing.{Beside, Holds, Setting, Standing, can_write, has_already, has_word, stored_beside}
+use Rattle.ec_machine_code.proofs.Standing.{Beside, Holds, Setting, Standing, can_write, has_already, has_word, holds_stored, stored_beside}
 use Rattle.ec_machine_code.proofs.Standing.{stores_field, word_is, writes_home, written_beside}
 use Rattle.ec_machine_code.proofs.Stretches.{CanAll, does_all}
 use Rattle.ec_machine_code.proofs.Values.{reckons, stands_small, truth_stands, two_some}
@@ -124,6 +124,13 @@ module _ {S : Type 0} (M : MachineMeaning S) (V : Vocabulary) (g : Setting M) (z
       let one = found_is M V g z here v m stand operand.Nil s u fine fits e in
       moves to s (source_of z.home operand.Nil) u writ flows one.can one.fits one.stands
 
+  -- a variable of which its home has the value
+  pub takes_variable :
+      (to x : Variable) (s : StaticType) (u : Value) → writes o ≡ Some to → Behind to s →
+      FitsWord u × Holds M g v.home v.bytes (z.home x) u → Did (moved (z.home to) (source.Home (z.home x))) (with_variable m to u)
+  takes_variable to x s u writ flows h =
+      moves_or_not to x s u (is_same_home (z.home to) (z.home x)) refl writ flows (found_variable M V g z here v m stand x u h) h.1
+
   pub takes_literal :
       (to : Variable) (index : ℕ) (s : StaticType) (t : List ℕ) → writes o ≡ Some to → Behind to s →
       slice_get g.parts.literals index ≡ Some t →
@@ -175,6 +182,19 @@ module _ {S : Type 0} (M : MachineMeaning S) (V : Vocabulary) (g : Setting M) (z
         behind = w.after;
         same = w.same;
       }
+
+  -- a variable that is put into it stays in its home
+  pub stays_held :
+      (n : ℕ) (x : Variable) (t : StaticType) (u old : Value) → Has here x t → variable_at m x ≡ Some u →
+      own_field m.common g.self n ≡ Some old →
+      FitsWord u
+      × Holds M g v.home (does_all M g.f g.own z.code (step.SetField n (source.Home (z.home x)) ∷ []) v).bytes (z.home x) u
+  stays_held n x t u old live e is =
+      let h = holds_live M V g z here v m stand x t u live e in
+      let one = found_variable M V g z here v m stand x u h in
+      let w = found M g.f g.own (source.Home (z.home x)) v.home v.bytes in
+      let small = stands_small g.parts g.local g.text g.tables u w one.fits one.stands in
+      (h.0, holds_stored M g n w u small one.fits one.stands (z.home x) v u (stand.ground.few n old is) h.1)
 
   pub sets_field :
       (n : ℕ) (from : Operand) (t : StaticType) (u old : Value) → FineOperand z.declared g.parts here from t → OperandFits from →

@@ -63,7 +63,7 @@ module _ {S : Type 0} (M : MachineMeaning S) (V : Vocabulary) (g : Setting M) (z
       let h = stand.held x t l in
       subst (λ w. FitsWord w × Holds M g v.home v.bytes (z.home x) w) (same_Some h.value u (sym h.is ∙ e)) (h.fits, h.holds)
 
-  found_variable :
+  pub found_variable :
       (x : Variable) (u : Value) → FitsWord u × Holds M g v.home v.bytes (z.home x) u → Found (operand.Of x) u
   found_variable x u h =
       let there = finds M g (z.home x) v u h.1 in

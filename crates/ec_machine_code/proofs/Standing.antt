@@ -290,7 +290,7 @@ module _ {S : Type 0} (M : MachineMeaning S) (g : Setting M) where
     abbrev pub stored : Bytes → Bytes
     stored b = put_word b (field_at g.own n) w
 
-    holds_stored : (h : Home) (v : Sight) (t : Value) → n < block_words → Holds v.home v.bytes h t → Holds v.home (stored v.bytes) h t
+    pub holds_stored : (h : Home) (v : Sight) (t : Value) → n < block_words → Holds v.home v.bytes h t → Holds v.home (stored v.bytes) h t
     holds_stored (Slot k) v t lt is = (
       is.0,
       stands_there v.bytes (field_at g.own n) w (slot_at g.f k) t (omega arith) (omega arith)

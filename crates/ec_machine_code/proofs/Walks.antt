@@ -1,12 +1,12 @@
 -- The code of an operation does what silent steps do, up to the next stop.
 use Rattle.std.proofs.Common.{◌≡◌, ◌≢◌, ℕ, zero, suc, ◌+◌, ◌-◌, ◌<◌, Bool, true, false, List, [], ◌∷◌, drop, length, Option, Some, None}
 use Rattle.std.proofs.Common.{refl, sym, ap, ◌∙◌, subst, arith, ⊎_elim}
-use Rattle.std.specs.Prelude.{slice_get}
+use Rattle.std.specs.Prelude.{ℤ, not, negsuc, pos, slice_get}
 use Rattle.ec_base.proofs.Lists.{drop_at}
 use Rattle.ec_code.specs.Activations.{Arrived, walk, walk_by}
 use Rattle.ec_code.specs.Fine.{FineOp, Has, live_at, live_if}
 use Rattle.ec_code.specs.Steps.{Done, Goes, Loops, Machine, NoCase, Rests, act, as_wanted, computed, decides as decides_it, gives}
-use Rattle.ec_code.specs.Steps.{on_numbers, on_two, operand_at, passes, tested, truth_in, variable_at, with_variable}
+use Rattle.ec_code.specs.Steps.{on_numbers, on_two, operand_at, passes, stores, tested, truth_in, variable_at, with_field, with_variable}
 use Rattle.ec_code.specs.declared.code.Line.{Line}
 use Rattle.ec_code.specs.declared.code.Op.{Op}
 use Rattle.ec_code.specs.declared.code.Op.TheVariants as op
@@ -17,32 +17,34 @@ use Rattle.ec_code.specs.declared.code.Variable.{Variable}
 use Rattle.ec_code.specs.declared.code.Variable.TheVariants.{Named, Temporary}
 use Rattle.ec_machine_code.specs.Faithful.{machine_at}
 use Rattle.ec_machine_code.specs.Machine.{MachineMeaning}
-use Rattle.ec_machine_code.proofs.Direct.{HasNext, IsAsked, IsDead, IsDirect, branch_leads, is_joined, never_joined, none_behind, none_led, none_made}
+use Rattle.ec_machine_code.proofs.Direct.{HasNext, IsAsked, IsDead, IsDirect, IsKept, IsTold, branch_leads, is_joined, never_joined, none_behind, none_led, none_made}
 use Rattle.ec_machine_code.proofs.Leading.{LeadsTo, as_it_is, leads_far, leads_to, walks_on}
 use Rattle.ec_machine_code.specs.Direct.{done_already, far_over, joined_at, joined_before, joined_line, joined_of, laid_by, laid_op, led_far}
 use Rattle.ec_machine_code.specs.Direct.{left_out}
 use Rattle.ec_machine_code.specs.Layout.{words_of_steps}
-use Rattle.ec_machine_code.specs.Lowering.{question_of}
+use Rattle.ec_machine_code.specs.Lowering.{question_of, steps_of}
 use Rattle.ec_machine_code.specs.declared.joined.Joined.{Joined}
-use Rattle.ec_machine_code.specs.declared.joined.Joined.TheVariants.{Asks, Into}
+use Rattle.ec_machine_code.specs.declared.step.Ending.TheVariants.{Jump}
+use Rattle.ec_machine_code.specs.declared.joined.Joined.TheVariants.{Asks, Into, Kept, Tells}
 use Rattle.ec_machine_code.specs.Micro.{Sight}
 use Rattle.ec_machine_code.specs.Speaks.{Ends, Sees, Vocabulary}
 use Rattle.ec_target.specs.Code.{pc_of}
 use Rattle.ec_world.specs.declared.common.Common.{Common}
-use Rattle.ec_world.specs.Same.{is_same_truth}
+use Rattle.ec_world.specs.Same.{are_same, is_same_number, is_same_truth, is_zero}
 use Rattle.ec_world.specs.declared.value.Value.{Value}
-use Rattle.ec_world.specs.declared.value.Value.TheVariants.{Bool as Truth}
+use Rattle.ec_world.specs.declared.value.Value.TheVariants.{Int, Nil, Ref, Str, Bool as Truth}
 use Rattle.ec_machine_code.proofs.Operands.{asked_is}
 use Rattle.ec_machine_code.proofs.Outcomes.{Arrival, Outcome, known_or_asked, leads}
 use Rattle.ec_machine_code.proofs.Pairs.{passed}
-use Rattle.ec_machine_code.proofs.Goings.{Turns, goes_on}
+use Rattle.ec_machine_code.proofs.Each.{sets_field, stays_held, takes_variable}
+use Rattle.ec_machine_code.proofs.Goings.{Turns, goes_on, runs_on}
 use Rattle.ec_machine_code.proofs.FineAt.{fine_at}
-use Rattle.ec_machine_code.proofs.Sites.{At, Site, end_of, flows_next, line_of, named, word_of}
+use Rattle.ec_machine_code.proofs.Sites.{At, Site, end_of, ends_at, flows_next, line_of, named, word_of}
 use Rattle.ec_machine_code.proofs.Spots.{Comes, comes_on, comes_there, is_there}
-use Rattle.ec_machine_code.proofs.Standing.{Beside, Held, Setting, Standing}
-use Rattle.ec_machine_code.proofs.Stretches.{drop_next, get_drop}
+use Rattle.ec_machine_code.proofs.Standing.{Beside, Held, Setting, Standing, passes_on}
+use Rattle.ec_machine_code.proofs.Stretches.{does_all, drop_next, get_drop}
 use Rattle.ec_machine_code.proofs.Values.{wanted_some}
-use Rattle.ec_machine_code.proofs.Variables.{set_other, set_same}
+use Rattle.ec_machine_code.proofs.Variables.{set_other, set_same, stored_same}
 
 -- what is wanted of what is wanted
 twice : (a b c : Bool) → is_same_truth (is_same_truth a b) c ≡ is_same_truth a (is_same_truth b c)
@@ -50,6 +52,43 @@ twice true b c = refl
 twice false true c = refl
 twice false false true = refl
 twice false false false = refl
+
+-- what is wanted to be so
+as_it_came : (o : Option Bool) → as_wanted true o ≡ o
+as_it_came None = refl
+as_it_came (Some b) = refl
+
+both_zero : (a b : ℤ) → is_zero a ≡ true → is_zero b ≡ true → is_same_number a b ≡ true
+both_zero (pos zero) (pos zero) e f = refl
+both_zero (pos zero) (pos (suc n)) e f = absurd cc
+both_zero (pos zero) (negsuc n) e f = absurd cc
+both_zero (pos (suc n)) b e f = absurd cc
+both_zero (negsuc n) b e f = absurd cc
+
+-- Nothing is other than 0, and yet nothing can be divided by it.
+not_zero_both : (a z : ℤ) → is_zero z ≡ true → Some (is_same_number a z) ≡ Some false → Some (not (is_zero a)) ≡ Some false → ⊥
+not_zero_both a z at_zero other none = by (is_zero a) refl none
+  where
+    by : (b : Bool) → is_zero a ≡ b → Some (not b) ≡ Some false → ⊥
+    by true e f =
+        let same : Some true ≡ Some false = ap Some (sym (both_zero a z e at_zero)) ∙ other in
+        cc
+    by false e f = cc
+
+not_both :
+    (o u : Option Value) (z : ℤ) → is_zero z ≡ true → on_two are_same o (Some (Int z)) ≡ Some false →
+    on_two (on_numbers (λ a b. Some (not (is_zero b)))) u o ≡ Some false → ⊥
+not_both None u z at_zero other none = cc
+not_both (Some (Int a)) None z at_zero other none = cc
+not_both (Some (Int a)) (Some (Int b)) z at_zero other none = not_zero_both a z at_zero other none
+not_both (Some (Int a)) (Some (Truth b)) z at_zero other none = cc
+not_both (Some (Int a)) (Some (Str b)) z at_zero other none = cc
+not_both (Some (Int a)) (Some (Ref b)) z at_zero other none = cc
+not_both (Some (Int a)) (Some Nil) z at_zero other none = cc
+not_both (Some (Truth a)) u z at_zero other none = cc
+not_both (Some (Str a)) u z at_zero other none = cc
+not_both (Some (Ref a)) u z at_zero other none = cc
+not_both (Some Nil) u z at_zero other none = cc
 
 module _ {S : Type 0} (M : MachineMeaning S) (V : Vocabulary) (g : Setting M) (z : Site M V g) where
   -- the code leads to the stop that is reached, through words of a step and of those behind it, none of them twice
@@ -372,6 +411,242 @@ module _ {S : Type 0} (M : MachineMeaning S) (V : Vocabulary) (g : Setting M) (z
         subst (λ done. Got (walk_by p (walk g.parts.literals g.self (suc p) (d.before.next ∷ rest)) m done))
         (sym (ap (act g.parts.literals g.self m) d.decides)) (decided (as_wanted wanted (tested m t)) refl)
 
+  -- a question that tells that what the next one asks for is other than 0
+  module _ (p : ℕ) (line : Line) (rest : List Line) (m : Machine) (s : S) (v : Sight) (at : slice_get z.of.code p ≡ Some line)
+      (before : joined_before z.of.code p ≡ None) (tells : joined_of z.of.code p line.op ≡ Some Tells) (d : IsTold z.of.code p line.op)
+      (all_is : drop (suc p) z.of.code ≡ d.before.next ∷ rest) (rest_is : drop (suc (suc p)) z.of.code ≡ rest)
+      (stand : Standing M g z.home (named M V g z) line.live v m) (sees : Sees M g.f g.own s v.home)
+      (there : M.place s ≡ pc_of (word_of M V g z p))
+      (next : (over : ℕ) (new : Machine) → From (d.before.next ∷ rest) (suc p) over new) where
+    abbrev tests : Test
+    tests = test.Same (operand.Of d.divisor) (operand.Number d.zero)
+
+    abbrev telling : Op
+    telling = op.Branch tests true d.over
+
+    abbrev divides : Test
+    divides = test.Divides d.left (operand.Of d.divisor)
+
+    abbrev dividing : Op
+    dividing = op.Branch divides true d.past
+
+    abbrev Reaches : Common × Option Arrived → Type 0
+    Reaches to = GetsTo s v p to
+
+    told_here : At M V g z p telling line.live
+    told_here = at ∙ ap (λ i. Some (line_of i line.live)) d.asks
+
+    told_there : At M V g z (suc p) dividing d.before.next.live
+    told_there = d.before.is_next ∙ ap (λ i. Some (line_of i d.before.next.live)) d.divides
+
+    abbrev far_first : ℕ
+    far_first = far_over z.of.code None true p d.over
+
+    abbrev far_second : ℕ
+    far_second = far_over z.of.code None true (suc p) d.past
+
+    laid_telling : laid_op z.of.code p telling ≡ op.Branch tests true far_first
+    laid_telling =
+        let goes : joined_of z.of.code p telling ≡ Some Tells = ap (joined_of z.of.code p) (sym d.asks) ∙ tells in
+        ap (λ i. laid_by i (joined_of z.of.code p telling) (led_far z.of.code p telling)) before
+        ∙ ap (λ i. laid_by None i (led_far z.of.code p telling)) goes
+
+    laid_dividing : laid_op z.of.code (suc p) dividing ≡ op.Jump far_second
+    laid_dividing =
+        let goes : joined_at z.of.code p ≡ Some Tells = ap (joined_line z.of.code p) at ∙ tells in
+        ap (λ i. laid_by i (joined_of z.of.code (suc p) dividing) (led_far z.of.code (suc p) dividing)) goes
+
+    fine_telling : FineOp z.declared g.parts z.number z.of p (drop (suc p) z.of.code) line.live telling
+    fine_telling = fine_at z.declared g.parts z.number z.of p (line_of telling line.live) z.fine told_here
+
+    fine_dividing : FineOp z.declared g.parts z.number z.of (suc p) (drop (suc (suc p)) z.of.code) d.before.next.live dividing
+    fine_dividing = fine_at z.declared g.parts z.number z.of (suc p) (line_of dividing d.before.next.live) z.fine told_there
+
+    abbrev Answer : Bool → Type 0
+    Answer r = Turns M V g z p telling (op.Branch tests true far_first) line.live told_here laid_telling s v there sees far_first r
+
+    answer : (r : Bool) → as_wanted true (tested m tests) ≡ Some r → Answer r
+    answer r comes =
+        let fits = z.numbers p (line_of telling line.live) told_here in
+        let a = asked_is M V g z line.live v m stand tests true r fine_telling.0 fits comes in
+        known_or_asked M V g z p telling (op.Branch tests true far_first) line.live told_here laid_telling s v there sees
+        (question_of z.home tests true) r far_first refl refl a.can a.is
+
+    -- it is 0: on to where the first one leads
+    yes : Answer true → Reaches (walk g.parts.literals g.self (suc p) (d.before.next ∷ rest) d.over m)
+    yes e =
+        let walks = subst
+        (λ l. walk g.parts.literals g.self (suc p) l d.over m ≡ walk g.parts.literals g.self (suc p) l far_first m) all_is
+        (walks_on g.parts.literals g.self z.of.code None true p d.over m tt) in
+        let leads = leads_far z.declared g.parts z.number z.of z.fine None true p d.over line.live
+        (leads_to z.declared g.parts z.number z.of z.fine p d.over line.live fine_telling.2) in
+        let stands = passes_on M g z.home (named M V g z) line.live (live_at z.of.code (suc (p + far_first))) v m leads.1 stand in
+        let lands : joined_before z.of.code (suc (p + far_first)) ≡ None =
+        none_led z.of.code p (line_of telling line.live) (p + far_first) told_here (branch_leads p far_first tests true) in
+        let on : suc (p + far_first) ≡ suc p + far_first = omega arith in
+        subst Reaches (sym walks)
+        (extends s v v p (suc p + far_first) (word_of M V g z (suc (p + far_first))) line
+        (walk g.parts.literals g.self (suc p) (d.before.next ∷ rest) far_first m) at e (λ address out. refl) (omega arith)
+        (next far_first m e.last v (ap (joined_before z.of.code) (sym on) ∙ lands) e.sees
+        (e.at ∙ ap (λ k. pc_of (word_of M V g z k)) on)
+        (subst (λ k. Standing M g z.home (named M V g z) (live_at z.of.code k) v m) on stands)))
+
+    -- what is live where the second one leads to is live here
+    stands_past : Standing M g z.home (named M V g z) (live_at z.of.code (suc (suc p + far_second))) v m
+    stands_past =
+        let none : p + 0 ≡ p = omega arith in
+        let falls = leads_to z.declared g.parts z.number z.of z.fine p 0 line.live fine_telling.1 in
+        let leads = leads_far z.declared g.parts z.number z.of z.fine None true (suc p) d.past d.before.next.live
+        (leads_to z.declared g.parts z.number z.of z.fine (suc p) d.past d.before.next.live fine_dividing.2) in
+        passes_on M g z.home (named M V g z) line.live (live_at z.of.code (suc (suc p + far_second))) v m
+        (λ x t l.
+        falls.1 x t (subst (λ k. Has (live_at z.of.code (suc k)) x t) (sym none)
+        (subst (λ ls. Has ls x t) (sym (ap live_if d.before.is_next)) (leads.1 x t l)))) stand
+
+    -- it is other than 0: past the second one, which has no question
+    past : Answer false → Reaches (walk g.parts.literals g.self (suc (suc p)) rest d.past m)
+    past e =
+        let none : suc (p + 0) ≡ suc p = omega arith in
+        let first = ends_at M V g z s v v (word_of M V g z p) (end_of M V g z p) (word_of M V g z (suc (p + 0))) (word_of M V g z (suc p))
+        (ap (word_of M V g z) none) e in
+        let second = goes_on M V g z (suc p) dividing (op.Jump far_second) d.before.next.live told_there laid_dividing first.last v first.at
+        first.sees (suc (suc p + far_second)) (Some (Jump far_second)) refl refl refl refl in
+        let walks = subst
+        (λ l. walk g.parts.literals g.self (suc (suc p)) l d.past m ≡ walk g.parts.literals g.self (suc (suc p)) l far_second m) rest_is
+        (walks_on g.parts.literals g.self z.of.code None true (suc p) d.past m tt) in
+        let lands : joined_before z.of.code (suc (suc p + far_second)) ≡ None =
+        none_led z.of.code (suc p) (line_of dividing d.before.next.live) (suc p + far_second) told_there
+        (branch_leads (suc p) far_second divides true) in
+        let on : suc (suc p + far_second) ≡ suc p + suc far_second = omega arith in
+        let gets = walk g.parts.literals g.self (suc p) (d.before.next ∷ rest) (suc far_second) m in
+        subst Reaches (sym walks)
+        (extends s v v p (suc p) (word_of M V g z (suc p)) line gets at first (λ address out. refl) (omega arith)
+        (extends first.last v v (suc p) (suc p + suc far_second) (word_of M V g z (suc (suc p + far_second))) d.before.next gets
+        d.before.is_next second (λ address out. refl) (omega arith)
+        (next (suc far_second) m second.last v (ap (joined_before z.of.code) (sym on) ∙ lands) second.sees
+        (second.at ∙ ap (λ k. pc_of (word_of M V g z k)) on)
+        (subst (λ k. Standing M g z.home (named M V g z) (live_at z.of.code k) v m) on stands_past))))
+
+    no : as_wanted true (tested m tests) ≡ Some false → Answer false →
+        Reaches (walk g.parts.literals g.self (suc p) (d.before.next ∷ rest) zero m)
+    no other e =
+        let acts : act g.parts.literals g.self m d.before.next.op ≡ passes m d.past (as_wanted true (tested m divides)) =
+        ap (act g.parts.literals g.self m) d.divides in
+        subst (λ done. Reaches (walk_by (suc p) (walk g.parts.literals g.self (suc (suc p)) rest) m done)) (sym acts)
+        (by (as_wanted true (tested m divides)) refl)
+      where
+        by : (r : Option Bool) → as_wanted true (tested m divides) ≡ r →
+            Reaches (walk_by (suc p) (walk g.parts.literals g.self (suc (suc p)) rest) m (passes m d.past r))
+        by None is = tt
+        by (Some true) is = past e
+        by (Some false) is =
+            absurd
+            (not_both (variable_at m d.divisor) (operand_at m d.left) d.zero d.at_zero (sym (as_it_came (tested m tests)) ∙ other)
+            (sym (as_it_came (tested m divides)) ∙ is))
+
+    told : (r : Option Bool) → as_wanted true (tested m tests) ≡ r →
+        Reaches (walk_by p (walk g.parts.literals g.self (suc p) (d.before.next ∷ rest)) m (passes m d.over r))
+    told None e = tt
+    told (Some true) e = yes (answer true e)
+    told (Some false) e = no e (answer false e)
+
+    behind_telling : Reaches (walk g.parts.literals g.self p (line ∷ d.before.next ∷ rest) zero m)
+    behind_telling =
+        subst (λ done. Reaches (walk_by p (walk g.parts.literals g.self (suc p) (d.before.next ∷ rest)) m done))
+        (sym (ap (act g.parts.literals g.self m) d.asks)) (told (as_wanted true (tested m tests)) refl)
+
+  -- a field that is read where the step before has set it to a variable
+  module _ (p : ℕ) (x : Variable) (line : Line) (rest : List Line) (m : Machine) (s : S) (v : Sight)
+      (at : slice_get z.of.code p ≡ Some line) (before : joined_before z.of.code p ≡ None)
+      (keeps : joined_of z.of.code p line.op ≡ Some (Kept x)) (d : IsKept z.of.code p line.op x)
+      (stand : Standing M g z.home (named M V g z) line.live v m) (sees : Sees M g.f g.own s v.home)
+      (there : M.place s ≡ pc_of (word_of M V g z p))
+      (next : (over : ℕ) (new : Machine) → From (d.before.next ∷ rest) (suc p) over new) where
+    abbrev setting : Op
+    setting = op.SetField d.field (operand.Of x)
+
+    abbrev reading : Op
+    reading = op.Field d.to d.field
+
+    abbrev copied : Op
+    copied = op.Copy d.to (operand.Of x)
+
+    abbrev Arrives : Common × Option Arrived → Type 0
+    Arrives to = GetsTo s v p to
+
+    set_here : At M V g z p setting line.live
+    set_here = at ∙ ap (λ i. Some (line_of i line.live)) d.sets
+
+    read_there : At M V g z (suc p) reading d.before.next.live
+    read_there = d.before.is_next ∙ ap (λ i. Some (line_of i d.before.next.live)) d.reads_it
+
+    laid_setting : laid_op z.of.code p setting ≡ setting
+    laid_setting =
+        let goes : joined_of z.of.code p setting ≡ Some (Kept x) = ap (joined_of z.of.code p) (sym d.sets) ∙ keeps in
+        ap (λ i. laid_by i (joined_of z.of.code p setting) setting) before ∙ ap (λ i. laid_by None i setting) goes
+
+    laid_reading : laid_op z.of.code (suc p) reading ≡ copied
+    laid_reading =
+        let goes : joined_at z.of.code p ≡ Some (Kept x) = ap (joined_line z.of.code p) at ∙ keeps in
+        ap (λ i. laid_by i (joined_of z.of.code (suc p) reading) reading) goes
+
+    none_joined_behind : joined_before z.of.code (suc (suc p)) ≡ None
+    none_joined_behind =
+        none_behind z.of.code (suc p) d.before.next d.before.is_next
+        (ap (joined_of z.of.code (suc p)) d.reads_it ∙ never_joined z.of.code (suc p) reading (λ i. refl))
+
+    module _ (u : Value) (comes : variable_at m x ≡ Some u) where
+      abbrev stored_in : Machine
+      stored_in = record m { common = with_field m.common g.self d.field u }
+
+      abbrev read_back : Machine
+      read_back = with_variable stored_in d.to u
+
+      both_done : Arrives (walk g.parts.literals g.self (suc (suc p)) rest zero read_back)
+      both_done =
+          let fine = fine_at z.declared g.parts z.number z.of p (line_of setting line.live) z.fine set_here in
+          let fine_next = fine_at z.declared g.parts z.number z.of (suc p) (line_of reading d.before.next.live) z.fine read_there in
+          let was = z.sets p d.field (line_of setting line.live) (operand.Of x) set_here refl in
+          let old = stand.ground.kept d.field was.0 was.1 in
+          let fits = z.numbers p (line_of setting line.live) set_here in
+          let did = sets_field M V g z p setting line.live set_here v m stand d.field (operand.Of x) fine.0.0 u old.0 fine.0.2 fits fine.1
+          comes old.1 in
+          let first = runs_on M V g z p setting setting line.live set_here laid_setting s v there sees refl did.can in
+          let after = does_all M g.f g.own z.code (steps_of z.home setting) v in
+          let held = stays_held M V g z p setting line.live set_here v m stand d.field x fine.0.2.0 u old.0 fine.0.2.1 comes old.1 in
+          let stands = subst (λ ls. Standing M g z.home (named M V g z) ls after stored_in) (ap live_if d.before.is_next) did.behind in
+          let moved = takes_variable M V g z (suc p) reading d.before.next.live read_there after stored_in stands d.to x fine_next.0 u refl
+          fine_next.2 held in
+          let second = runs_on M V g z (suc p) reading copied d.before.next.live read_there laid_reading first.last after first.at first.sees refl
+          moved.can in
+          let last = does_all M g.f g.own z.code (steps_of z.home copied) after in
+          let on : suc (suc p) ≡ suc p + suc zero = omega arith in
+          let gets = walk g.parts.literals g.self (suc p) (d.before.next ∷ rest) (suc zero) read_back in
+          extends s v after p (suc p) (word_of M V g z (suc p)) line gets at first did.same (omega arith)
+          (extends first.last after last (suc p) (suc p + suc zero) (word_of M V g z (suc (suc p))) d.before.next gets d.before.is_next second
+          moved.same (omega arith)
+          (next (suc zero) read_back second.last last (ap (joined_before z.of.code) (sym on) ∙ none_joined_behind) second.sees
+          (second.at ∙ ap (λ k. pc_of (word_of M V g z k)) on)
+          (subst (λ k. Standing M g z.home (named M V g z) (live_at z.of.code k) last read_back) on moved.behind)))
+
+    sets_or_not :
+        (r : Option Value) → variable_at m x ≡ r →
+        Arrives (walk_by p (walk g.parts.literals g.self (suc p) (d.before.next ∷ rest)) m (stores m g.self d.field r))
+    sets_or_not None e = tt
+    sets_or_not (Some u) e =
+        let was = z.sets p d.field (line_of setting line.live) (operand.Of x) set_here refl in
+        let old = stand.ground.kept d.field was.0 was.1 in
+        let read : act g.parts.literals g.self (stored_in u e) d.before.next.op ≡ Goes (read_back u e) 0 =
+        ap (act g.parts.literals g.self (stored_in u e)) d.reads_it
+        ∙ ap (gives (stored_in u e) d.to) (stored_same m.common g.self d.field u old.0 old.1) in
+        subst (λ done. Arrives (walk_by (suc p) (walk g.parts.literals g.self (suc (suc p)) rest) (stored_in u e) done)) (sym read)
+        (both_done u e)
+
+    behind_setting : Arrives (walk g.parts.literals g.self p (line ∷ d.before.next ∷ rest) zero m)
+    behind_setting =
+        subst (λ done. Arrives (walk_by p (walk g.parts.literals g.self (suc p) (d.before.next ∷ rest)) m done))
+        (sym (ap (act g.parts.literals g.self m) d.sets)) (sets_or_not (variable_at m x) refl)
+
   -- from a step on that isn't laid out with the one before it
   one :
       (p : ℕ) (line : Line) (rest : List Line) (m : Machine) (s : S) (v : Sight) → slice_get z.of.code p ≡ Some line →
@@ -404,6 +679,18 @@ module _ {S : Type 0} (M : MachineMeaning S) (V : Vocabulary) (g : Setting M) (z
           let cut = rest_is d.before in
           subst (λ r. GetsTo s v p (walk g.parts.literals g.self p (line ∷ r) zero m)) (sym cut)
           (behind_question p t wanted line (drop (suc (suc p)) z.of.code) m s v at before joined d refl stand sees there
+          (subst (λ r. (over : ℕ) (new : Machine) → From r (suc p) over new) cut next))
+      by (Some Tells) joined =
+          let d = is_joined z.of.code p line.op Tells joined in
+          let cut = rest_is d.before in
+          subst (λ r. GetsTo s v p (walk g.parts.literals g.self p (line ∷ r) zero m)) (sym cut)
+          (behind_telling p line (drop (suc (suc p)) z.of.code) m s v at before joined d (is ∙ cut) refl stand sees there
+          (subst (λ r. (over : ℕ) (new : Machine) → From r (suc p) over new) cut next))
+      by (Some (Kept x)) joined =
+          let d = is_joined z.of.code p line.op (Kept x) joined in
+          let cut = rest_is d.before in
+          subst (λ r. GetsTo s v p (walk g.parts.literals g.self p (line ∷ r) zero m)) (sym cut)
+          (behind_setting p x line (drop (suc (suc p)) z.of.code) m s v at before joined d stand sees there
           (subst (λ r. (over : ℕ) (new : Machine) → From r (suc p) over new) cut next))
 
   -- from a place on

@@ -1,8 +1,10 @@
 -- Which steps are laid out for those of three-address code. The result of arithmetic is put into a temporary, and copied from there by the
 -- next step: where nothing else reads the temporary, it goes into the named variable at once, and the copy has no words. A condition of
 -- parts puts truth values into a temporary, and asks for them where its parts join: where nothing else reads one, the question is that of
--- the part, and the value isn't made; and a question or a jump leads past jumps, and past questions whose answer is known on the way.
-use Rattle.std.specs.Prelude.{ℕ, zero, suc, ◌+◌, ◌^◌, ◌==◌, Bool, true, false, if◌then◌else◌, List, [], ◌∷◌, length, map, replicate}
+-- the part, and the value isn't made; and a question or a jump leads past jumps, and past questions whose answer is known on the way. It
+-- isn't asked whether something can be divided by a variable where the step before has told this to be other than 0. A field that the step
+-- before has set to a variable isn't read: the variable is copied.
+use Rattle.std.specs.Prelude.{ℕ, zero, suc, ◌+◌, ◌^◌, ◌==◌, Bool, true, false, ◌&&◌, if◌then◌else◌, List, [], ◌∷◌, length, map, replicate}
 use Rattle.std.specs.Prelude.{Option, Some, None, nat_lt, slice_get, slice_set}
 use Rattle.ec_code.specs.Fine.{live_at}
 use Rattle.ec_code.specs.declared.code.Line.{Line}
@@ -17,8 +19,8 @@ use Rattle.ec_code.specs.declared.code.Variable.{Variable}
 use Rattle.ec_code.specs.declared.code.Variable.TheVariants.{Named, Temporary}
 use Rattle.ec_code.specs.Marks.{is_among, is_same}
 use Rattle.ec_machine_code.specs.declared.joined.Joined.{Joined}
-use Rattle.ec_machine_code.specs.declared.joined.Joined.TheVariants.{Into, Asks}
-use Rattle.ec_world.specs.Same.{is_same_truth}
+use Rattle.ec_machine_code.specs.declared.joined.Joined.TheVariants.{Into, Asks, Kept, Tells}
+use Rattle.ec_world.specs.Same.{is_same_truth, is_zero}
 
 -- ---- questions whose answer is known
 
@@ -134,12 +136,52 @@ asks_by code p d j (op.Branch t wanted over) =
     (unless (is_live (Temporary d) (live_at code (suc (p + far_over code (asked_for t) wanted p over)))) (Some j))
 asks_by code p d j _ = None
 
--- A step with the next one, which is at place p: the temporary that the first writes isn't live behind the second.
+-- whether it is the number 0
+abbrev pub is_nothing : Operand → Bool
+is_nothing (operand.Number z) = is_zero z
+is_nothing _ = false
+
+abbrev pub variable_if : Bool → Operand → Option Variable
+variable_if true x = variable_in x
+variable_if false x = None
+
+-- the variable that is other than 0 where a test doesn't come out as wanted
+abbrev pub told_by : Test → Bool → Option Variable
+told_by (test.Same x y) wanted = variable_if (wanted && is_nothing y) x
+told_by _ wanted = None
+
+-- whether a test is that something can be divided by this one
+abbrev pub is_divisor : Variable → Test → Bool
+is_divisor x (test.Divides y (operand.Of z)) = is_same x z
+is_divisor x _ = false
+
+abbrev pub asks_divisor : Variable → Op → Bool
+asks_divisor x (op.Branch t wanted over) = wanted && is_divisor x t
+asks_divisor x _ = false
+
+abbrev pub tells : Option Variable → Op → Option Joined
+tells None next = None
+tells (Some x) next = if_so (asks_divisor x next) (Some Tells)
+
+-- whether a step reads a field
+abbrev pub reads_field : ℕ → Op → Bool
+reads_field n (op.Field to field) = field == n
+reads_field n _ = false
+
+-- what is read of a field that a variable was put into
+abbrev pub keeps : Option Variable → ℕ → Op → Option Joined
+keeps None n next = None
+keeps (Some x) n next = if_so (reads_field n next) (Some (Kept x))
+
+-- A step with the next one, which is at place p: the temporary that the first writes isn't live behind the second; or the second asks for a
+-- divisor that the first tells to be other than 0; or it reads the field that the first sets.
 abbrev pub joined_with : List Line → ℕ → Op → Op → Option Joined
 joined_with code p (op.Compute how (Temporary d) left right) next =
     unless (is_live (Temporary d) (live_at code (suc p))) (into (copied_to d next))
 joined_with code p (op.Decide (Temporary d) t wanted) next =
     unless (is_live (Temporary d) (live_at code (suc p))) (asks_by code p d (Asks t wanted) next)
+joined_with code p (op.Branch t wanted over) next = tells (told_by t wanted) next
+joined_with code p (op.SetField n from) next = keeps (variable_in from) n next
 joined_with code p _ next = None
 
 abbrev pub joined_if : List Line → ℕ → Op → Option Line → Option Joined
@@ -183,11 +225,25 @@ abbrev pub asking : Test → Bool → Op → Op
 asking t wanted (op.Branch u is_true over) = op.Branch t (is_same_truth is_true wanted) over
 asking t wanted o = o
 
+-- a question whose answer is yes
+abbrev pub answered : Op → Op
+answered (op.Branch t wanted over) = op.Jump over
+answered o = o
+
+-- a field whose value a variable has
+abbrev pub copying : Variable → Op → Op
+copying x (op.Field to field) = op.Copy to (operand.Of x)
+copying x o = o
+
 abbrev pub laid_by : Option Joined → Option Joined → Op → Op
 laid_by (Some (Into n)) here o = done_already n
 laid_by (Some (Asks t wanted)) here o = asking t wanted o
+laid_by (Some Tells) here o = answered o
+laid_by (Some (Kept x)) here o = copying x o
 laid_by None (Some (Into n)) o = into_named n o
 laid_by None (Some (Asks t wanted)) o = left_out o
+laid_by None (Some Tells) o = o
+laid_by None (Some (Kept x)) o = o
 laid_by None None o = o
 
 -- the step that is laid out for one at place q

@@ -1,5 +1,5 @@
 //! Two steps of three-address code that are laid out as one.
-use ec_code::code::Test;
+use ec_code::code::{Test, Variable};
 
 /// How a step and the next one are laid out together.
 #[derive(Clone, Copy, PartialEq, Eq, Debug)]
@@ -8,4 +8,9 @@ pub enum Joined {
     Into(u32),
     /// The second asks for the truth value that the first decides: whether a test comes out as wanted. The first has no words.
     Asks { test: Test, wanted: bool },
+    /// The second asks whether something can be divided by a variable that the first has just told to be other than 0. The second has no
+    /// question.
+    Tells,
+    /// The second reads the field that the first has just set to a variable. It copies the variable.
+    Kept(Variable),
 }
