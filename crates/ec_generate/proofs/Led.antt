@@ -12,9 +12,10 @@ use Rattle.ec_code.specs.declared.code.Variable.{Variable}
 use Rattle.ec_machine_code.specs.declared.homes.Home.{Home}
 use Rattle.ec_machine_code.specs.declared.joined.Joined.{Joined}
 use Rattle.ec_machine_code.specs.declared.joined.Joined.TheVariants.{Asks, Into, Kept, Tells}
-use Rattle.ec_machine_code.proofs.Direct.{is_joined, left_ending, none_made, nothing_moved, same_ending}
-use Rattle.ec_machine_code.specs.Direct.{answered, asking, copying, further, if_so, into_named, is_unled, joined_before, joined_if, joined_line, joined_of}
-use Rattle.ec_machine_code.specs.Direct.{joined_with, laid_by, laid_op, led_far, led_on, led_to, left_out, marked, marked_one, most_led, passed_if}
+use Rattle.ec_machine_code.proofs.Direct.{is_joined, left_ending, none_copied, none_made, nothing_moved, same_ending}
+use Rattle.ec_machine_code.specs.Direct.{answered, asking, copying, further, if_so, into_named, is_unled, is_unread, joined_before, joined_if, joined_line, joined_of}
+use Rattle.ec_machine_code.specs.Direct.{joined_with, laid_by, laid_op, led_far, led_on, led_to, left_out, made_if, marked, marked_one, most_led, passed_if}
+use Rattle.ec_machine_code.specs.Direct.{unmade}
 use Rattle.ec_machine_code.specs.Lowering.{ending_of, steps_of}
 
 pub none_past : (code : List Line) (p : ℕ) → length code ≤ p → slice_get code p ≡ None
@@ -217,6 +218,35 @@ module _ (home : Variable → Home) (code : List Line) (q : ℕ) where
       let d = is_joined code q o (Asks t wanted) e in
       ap (λ i. steps_of home (left_out (led_far code q i))) d.decides ∙ none_made home _ t wanted
 
+  -- a step that nothing reads has no words
+  unmade_steps : (o : Op) → is_unread code q o ≡ true → steps_of home (unmade o) ≡ []
+  unmade_steps (op.Copy to from) m = none_copied home to
+  unmade_steps (op.Literal to index) m = none_copied home to
+  unmade_steps (op.Itself to) m = absurd cc
+  unmade_steps (op.Field to field) m = absurd cc
+  unmade_steps (op.SetField field from) m = absurd cc
+  unmade_steps (op.Constant to index) m = absurd cc
+  unmade_steps (op.Compute how to left right) m = absurd cc
+  unmade_steps (op.Decide to u is_true) m = absurd cc
+  unmade_steps (op.Branch u is_true over) m = absurd cc
+  unmade_steps (op.Jump over) m = absurd cc
+  unmade_steps (op.Again back) m = absurd cc
+  unmade_steps (op.Rest row) m = absurd cc
+
+  unmade_ending : (o : Op) → is_unread code q o ≡ true → ending_of home (unmade o) ≡ None
+  unmade_ending (op.Copy to from) m = refl
+  unmade_ending (op.Literal to index) m = refl
+  unmade_ending (op.Itself to) m = absurd cc
+  unmade_ending (op.Field to field) m = absurd cc
+  unmade_ending (op.SetField field from) m = absurd cc
+  unmade_ending (op.Constant to index) m = absurd cc
+  unmade_ending (op.Compute how to left right) m = absurd cc
+  unmade_ending (op.Decide to u is_true) m = absurd cc
+  unmade_ending (op.Branch u is_true over) m = absurd cc
+  unmade_ending (op.Jump over) m = absurd cc
+  unmade_ending (op.Again back) m = absurd cc
+  unmade_ending (op.Rest row) m = absurd cc
+
   module _ (o : Op) where
     abbrev far : Op
     far = led_far code q o
@@ -224,63 +254,86 @@ module _ (home : Variable → Home) (code : List Line) (q : ℕ) where
     abbrev here : Option Joined
     here = joined_of code q o
 
+    abbrev before : Option Joined
+    before = joined_before code q
+
+    -- a step that something reads
+    pub made : is_unread code q o ≡ false → laid_op code q o ≡ laid_by before here far
+    made m = ap (λ b. made_if b o (laid_by before here far)) m
+
+    -- one that nothing reads has no words
+    pub unread : is_unread code q o ≡ true → laid_op code q o ≡ unmade o
+    unread m = ap (λ b. made_if b o (laid_by before here far)) m
+
+    pub unread_steps : is_unread code q o ≡ true → steps_of home (laid_op code q o) ≡ []
+    unread_steps m = ap (steps_of home) (unread m) ∙ unmade_steps o m
+
+    pub unread_ending : is_unread code q o ≡ true → ending_of home (laid_op code q o) ≡ None
+    unread_ending m = ap (ending_of home) (unread m) ∙ unmade_ending o m
+
     -- a copy that is done already has no words
-    pub no_steps : (n : ℕ) → joined_before code q ≡ Some (Into n) → steps_of home (laid_op code q o) ≡ []
-    no_steps n e = ap (λ b. steps_of home (laid_by b here far)) e ∙ nothing_moved home n
+    pub no_steps : (n : ℕ) → is_unread code q o ≡ false → before ≡ Some (Into n) → steps_of home (laid_op code q o) ≡ []
+    no_steps n m e = ap (steps_of home) (made m) ∙ ap (λ b. steps_of home (laid_by b here far)) e ∙ nothing_moved home n
 
     pub question_steps :
-        (t : Test) (wanted : Bool) → joined_before code q ≡ Some (Asks t wanted) → steps_of home (laid_op code q o) ≡ steps_of home o
-    question_steps t wanted e = ap (λ b. steps_of home (laid_by b here far)) e ∙ asking_far t wanted o
+        (t : Test) (wanted : Bool) → is_unread code q o ≡ false → before ≡ Some (Asks t wanted) →
+        steps_of home (laid_op code q o) ≡ steps_of home o
+    question_steps t wanted m e =
+        ap (steps_of home) (made m) ∙ ap (λ b. steps_of home (laid_by b here far)) e ∙ asking_far t wanted o
 
-    pub answered_steps : joined_before code q ≡ Some Tells → steps_of home (laid_op code q o) ≡ steps_of home o
-    answered_steps e = ap (λ b. steps_of home (laid_by b here far)) e ∙ answered_far o
+    pub answered_steps : is_unread code q o ≡ false → before ≡ Some Tells → steps_of home (laid_op code q o) ≡ steps_of home o
+    answered_steps m e = ap (steps_of home) (made m) ∙ ap (λ b. steps_of home (laid_by b here far)) e ∙ answered_far o
 
     pub copying_steps :
-        (x : Variable) → joined_before code q ≡ Some (Kept x) → steps_of home (laid_op code q o) ≡ steps_of home (copying x o)
-    copying_steps x e = ap (λ b. steps_of home (laid_by b here far)) e ∙ copying_far x o
+        (x : Variable) → is_unread code q o ≡ false → before ≡ Some (Kept x) →
+        steps_of home (laid_op code q o) ≡ steps_of home (copying x o)
+    copying_steps x m e = ap (steps_of home) (made m) ∙ ap (λ b. steps_of home (laid_by b here far)) e ∙ copying_far x o
+
+    -- with no step before it that is laid out with it
+    alone : is_unread code q o ≡ false → before ≡ None → laid_op code q o ≡ laid_by None here far
+    alone m e = made m ∙ ap (λ b. laid_by b here far) e
 
     pub named_steps :
-        (n : ℕ) → joined_before code q ≡ None → joined_of code q o ≡ Some (Into n) →
+        (n : ℕ) → is_unread code q o ≡ false → before ≡ None → here ≡ Some (Into n) →
         steps_of home (laid_op code q o) ≡ steps_of home (into_named n o)
-    named_steps n e f =
-        ap (λ b. steps_of home (laid_by b here far)) e ∙ ap (λ b. steps_of home (laid_by None b far)) f ∙ far_into n o
+    named_steps n m e f = ap (steps_of home) (alone m e) ∙ ap (λ b. steps_of home (laid_by None b far)) f ∙ far_into n o
 
     pub asked_steps :
-        (t : Test) (wanted : Bool) → joined_before code q ≡ None → joined_of code q o ≡ Some (Asks t wanted) →
+        (t : Test) (wanted : Bool) → is_unread code q o ≡ false → before ≡ None → here ≡ Some (Asks t wanted) →
         steps_of home (laid_op code q o) ≡ []
-    asked_steps t wanted e f =
-        ap (λ b. steps_of home (laid_by b here far)) e ∙ ap (λ b. steps_of home (laid_by None b far)) f ∙ left_far t wanted o f
+    asked_steps t wanted m e f =
+        ap (steps_of home) (alone m e) ∙ ap (λ b. steps_of home (laid_by None b far)) f ∙ left_far t wanted o f
 
     pub telling_steps :
-        joined_before code q ≡ None → joined_of code q o ≡ Some Tells → steps_of home (laid_op code q o) ≡ steps_of home o
-    telling_steps e f =
-        ap (λ b. steps_of home (laid_by b here far)) e ∙ ap (λ b. steps_of home (laid_by None b far)) f ∙ far_steps o
+        is_unread code q o ≡ false → before ≡ None → here ≡ Some Tells → steps_of home (laid_op code q o) ≡ steps_of home o
+    telling_steps m e f = ap (steps_of home) (alone m e) ∙ ap (λ b. steps_of home (laid_by None b far)) f ∙ far_steps o
 
     pub setting_steps :
-        (x : Variable) → joined_before code q ≡ None → joined_of code q o ≡ Some (Kept x) →
+        (x : Variable) → is_unread code q o ≡ false → before ≡ None → here ≡ Some (Kept x) →
         steps_of home (laid_op code q o) ≡ steps_of home o
-    setting_steps x e f =
-        ap (λ b. steps_of home (laid_by b here far)) e ∙ ap (λ b. steps_of home (laid_by None b far)) f ∙ far_steps o
+    setting_steps x m e f = ap (steps_of home) (alone m e) ∙ ap (λ b. steps_of home (laid_by None b far)) f ∙ far_steps o
 
-    pub own_steps : joined_before code q ≡ None → joined_of code q o ≡ None → steps_of home (laid_op code q o) ≡ steps_of home o
-    own_steps e f =
-        ap (λ b. steps_of home (laid_by b here far)) e ∙ ap (λ b. steps_of home (laid_by None b far)) f ∙ far_steps o
+    pub own_steps : is_unread code q o ≡ false → before ≡ None → here ≡ None → steps_of home (laid_op code q o) ≡ steps_of home o
+    own_steps m e f = ap (steps_of home) (alone m e) ∙ ap (λ b. steps_of home (laid_by None b far)) f ∙ far_steps o
 
-    pub no_ending : (n : ℕ) → joined_before code q ≡ Some (Into n) → ending_of home (laid_op code q o) ≡ None
-    no_ending n e = ap (λ b. ending_of home (laid_by b here far)) e
+    pub no_ending : (n : ℕ) → is_unread code q o ≡ false → before ≡ Some (Into n) → ending_of home (laid_op code q o) ≡ None
+    no_ending n m e = ap (ending_of home) (made m) ∙ ap (λ b. ending_of home (laid_by b here far)) e
 
     pub asking_ending :
-        (t : Test) (wanted : Bool) → joined_before code q ≡ Some (Asks t wanted) →
+        (t : Test) (wanted : Bool) → is_unread code q o ≡ false → before ≡ Some (Asks t wanted) →
         ending_of home (laid_op code q o) ≡ ending_of home (asking t wanted (led_far code q o))
-    asking_ending t wanted e = ap (λ b. ending_of home (laid_by b here far)) e
+    asking_ending t wanted m e = ap (ending_of home) (made m) ∙ ap (λ b. ending_of home (laid_by b here far)) e
 
     pub answered_ending :
-        joined_before code q ≡ Some Tells → ending_of home (laid_op code q o) ≡ ending_of home (answered (led_far code q o))
-    answered_ending e = ap (λ b. ending_of home (laid_by b here far)) e
+        is_unread code q o ≡ false → before ≡ Some Tells →
+        ending_of home (laid_op code q o) ≡ ending_of home (answered (led_far code q o))
+    answered_ending m e = ap (ending_of home) (made m) ∙ ap (λ b. ending_of home (laid_by b here far)) e
 
     pub copying_ending :
-        (x : Variable) → joined_before code q ≡ Some (Kept x) → ending_of home (laid_op code q o) ≡ ending_of home (led_far code q o)
-    copying_ending x e = ap (λ b. ending_of home (laid_by b here far)) e ∙ copied_ending x far
+        (x : Variable) → is_unread code q o ≡ false → before ≡ Some (Kept x) →
+        ending_of home (laid_op code q o) ≡ ending_of home (led_far code q o)
+    copying_ending x m e =
+        ap (ending_of home) (made m) ∙ ap (λ b. ending_of home (laid_by b here far)) e ∙ copied_ending x far
 
     pub laid_ending : (k : Option Joined) → ending_of home (laid_by None k (led_far code q o)) ≡ ending_of home (led_far code q o)
     laid_ending None = refl
@@ -289,8 +342,9 @@ module _ (home : Variable → Home) (code : List Line) (q : ℕ) where
     laid_ending (Some Tells) = refl
     laid_ending (Some (Kept x)) = refl
 
-    pub own_ending : joined_before code q ≡ None → ending_of home (laid_op code q o) ≡ ending_of home (led_far code q o)
-    own_ending e = ap (λ b. ending_of home (laid_by b here far)) e ∙ laid_ending here
+    pub own_ending :
+        is_unread code q o ≡ false → before ≡ None → ending_of home (laid_op code q o) ≡ ending_of home (led_far code q o)
+    own_ending m e = ap (ending_of home) (alone m e) ∙ laid_ending here
 
 -- ---- the loop that marks places
 

@@ -23,7 +23,8 @@ use Rattle.ec_machine_code.specs.Limits.{HasFewFields, HasLimits, IsSmallOperati
 use Rattle.ec_types.specs.declared.conform.static_type.StaticType.{StaticType}
 use Rattle.ec_machine_code.specs.Frames.{block_words, slots}
 use Rattle.ec_generate.specs.Puts.{CanPutQuestion, CanPutSource}
-use Rattle.ec_generate.proofs.Led.{answered_far, asking_far, copied_ending, copying_far, far_into, far_steps, laid_ending, left_far}
+use Rattle.ec_generate.proofs.Led.{answered_far, asking_far, copied_ending, copying_far, far_into, far_steps, laid_ending, left_far, made}
+use Rattle.ec_generate.proofs.Led.{unread_ending, unread_steps}
 use Rattle.ec_generate.specs.Sites.{CanPutAll, CanPutEnding, IsMakeable, home_there, ops_there}
 use Rattle.ec_generate.specs.declared.site.Site.{Site}
 use Rattle.ec_machine_code.specs.Homes.{IsWithin}
@@ -32,7 +33,7 @@ use Rattle.ec_code.specs.Live.{read_by, read_in, reads, writes}
 use Rattle.ec_machine_code.proofs.Direct.{IsDirect, is_joined, joined_there, line_there, nothing_moved, ops_long}
 use Rattle.ec_machine_code.proofs.FineAt.{fine_at}
 use Rattle.ec_machine_code.proofs.Leading.{leads_far, leads_to}
-use Rattle.ec_machine_code.specs.Direct.{answered, asked_for, asking, copying, far_over, into_named, joined_before, joined_of, laid_by, laid_op, led_far}
+use Rattle.ec_machine_code.specs.Direct.{answered, asked_for, asking, copying, far_over, into_named, is_unread, joined_before, joined_of, laid_by, laid_op, led_far}
 use Rattle.ec_machine_code.specs.declared.joined.Joined.{Joined}
 use Rattle.ec_machine_code.specs.declared.joined.Joined.TheVariants.{Asks, Into, Kept, Tells}
 use Rattle.ec_machine_code.specs.Fitting.{HomesFit, IsNamedBy}
@@ -259,8 +260,14 @@ module _ (d : Declared) (p : Parts) (fine : Fine d p) (limits : HasLimits p) (re
         (move_puts registers home (is_there (home k.to) (source.Home (home x))) (home k.to) (source.Home (home x)) into from)
 
     laid_put : (q : ℕ) (line : Line) → slice_get o.code q ≡ Some line → CanPutAll registers (steps_of home (laid_op o.code q line.op))
-    laid_put q line e = by (joined_before o.code q) (joined_of o.code q line.op) refl refl
+    laid_put q line e = read_or_not (is_unread o.code q line.op) refl
       where
+        read_or_not : (b : Bool) → is_unread o.code q line.op ≡ b → CanPutAll registers (steps_of home (laid_op o.code q line.op))
+        read_or_not true m = subst (CanPutAll registers) (sym (unread_steps home o.code q line.op m)) tt
+        read_or_not false m =
+            subst (λ i. CanPutAll registers (steps_of home i)) (sym (made home o.code q line.op m))
+            (by (joined_before o.code q) (joined_of o.code q line.op) refl refl)
+
         by : (a b : Option Joined) → joined_before o.code q ≡ a → joined_of o.code q line.op ≡ b →
             CanPutAll registers (steps_of home (laid_by a b (led_far o.code q line.op)))
         by (Some (Into k)) b before is = subst (CanPutAll registers) (sym (nothing_moved home k)) tt
@@ -313,12 +320,24 @@ module _ (d : Declared) (p : Parts) (fine : Fine d p) (limits : HasLimits p) (re
         subst (CanPutEnding registers (length o.code) q) (sym (laid_ending home o.code q line.op (joined_of o.code q line.op)))
         (ending_puts registers home d p n o operation_fine q line line.op f (λ x r. homed q line x e (inl r)))
 
+    -- of the step that is laid out
+    whole_end : (q : ℕ) (line : Line) → slice_get o.code q ≡ Some line →
+        CanPutEnding registers (length o.code) q (ending_of home (laid_op o.code q line.op))
+    whole_end q line e = read_or_not (is_unread o.code q line.op) refl
+      where
+        read_or_not : (b : Bool) → is_unread o.code q line.op ≡ b →
+            CanPutEnding registers (length o.code) q (ending_of home (laid_op o.code q line.op))
+        read_or_not true m = subst (CanPutEnding registers (length o.code) q) (sym (unread_ending home o.code q line.op m)) tt
+        read_or_not false m =
+            subst (λ i. CanPutEnding registers (length o.code) q (ending_of home i)) (sym (made home o.code q line.op m))
+            (laid_end q line (joined_before o.code q) e refl)
+
     endings : (q : ℕ) (i : Op) → slice_get (ops_of o.code) q ≡ Some i →
         CanPutEnding registers (length (ops_of o.code)) q (ending_of home i)
     endings q i e =
         let l = line_there o.code q i e in
         subst (λ k. CanPutEnding registers k q (ending_of home i)) (sym (ops_long o.code))
-        (subst (λ x. CanPutEnding registers (length o.code) q (ending_of home x)) l.2 (laid_end q l.0 (joined_before o.code q) l.1 refl))
+        (subst (λ x. CanPutEnding registers (length o.code) q (ending_of home x)) l.2 (whole_end q l.0 l.1))
 
     pub makeable : IsMakeable registers site
     makeable =

@@ -266,14 +266,35 @@ fn is_unled(led: &[bool], place: usize) -> bool
     }
 }
 
-/// Whether a temporary is live so many steps past the step behind a place.
+/// Whether a variable is live so many steps past the step behind a place.
 #[tactic(auto, using(crate::proofs::Led::live_there, crate::proofs::Led::none_there))]
-fn is_live_past(code: &Seq<Line>, d: u32, place: usize, over: u32) -> bool
-    ensures { result ≡ spec.is_live (Temporary d) (live_at code.now (suc (place + over))) }
+fn is_live_past(code: &Seq<Line>, x: Variable, place: usize, over: u32) -> bool
+    ensures { result ≡ spec.is_live x (live_at code.now (suc (place + over))) }
 {
     match line_past(code, place, over) {
-        Some(line) => is_live(Variable::Temporary(d), line.live.as_slice()),
+        Some(line) => is_live(x, line.live.as_slice()),
         None => false,
+    }
+}
+
+/// Whether the step at a place only gives a variable a value that nothing reads behind it.
+#[tactic(auto, using(crate::proofs::Led::next_live))]
+pub(crate) fn is_unread(code: &Seq<Line>, place: usize, op: &Op) -> bool
+    ensures { result ≡ spec.is_unread code.now place op.now }
+{
+    match op {
+        Op::Copy { to, .. } => !is_live_past(code, *to, place, 0),
+        Op::Literal { to, .. } => !is_live_past(code, *to, place, 0),
+        Op::Itself { .. }
+        | Op::Field { .. }
+        | Op::SetField { .. }
+        | Op::Constant { .. }
+        | Op::Compute { .. }
+        | Op::Decide { .. }
+        | Op::Branch { .. }
+        | Op::Jump { .. }
+        | Op::Again { .. }
+        | Op::Rest(_) => false,
     }
 }
 
@@ -287,7 +308,7 @@ fn asks_by(code: &Seq<Line>, place: usize, d: u32, joined: Joined, op: &Op) -> O
                 return None;
             }
             let far = far_branch(code, place, *test, *wanted, *over);
-            if is_live_past(code, d, place, far) {
+            if is_live_past(code, Variable::Temporary(d), place, far) {
                 return None;
             }
             Some(joined)
@@ -311,7 +332,7 @@ fn asks_by(code: &Seq<Line>, place: usize, d: u32, joined: Joined, op: &Op) -> O
 fn unless_live(code: &Seq<Line>, d: u32, place: usize, joined: Option<Joined>) -> Option<Joined>
     ensures { result ≡ spec.unless (spec.is_live (Temporary d) (live_at code.now (suc place))) joined }
 {
-    if is_live_past(code, d, place, 0) {
+    if is_live_past(code, Variable::Temporary(d), place, 0) {
         return None;
     }
     joined

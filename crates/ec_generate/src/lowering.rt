@@ -5,7 +5,7 @@ ghost use Rattle.ec_machine_code.specs.Direct as direct;
 ghost use Rattle.ec_machine_code.specs.Lowering as spec;
 ghost use Rattle.ec_machine_code.specs.Micro.{related};
 
-use crate::direct::{comes_out, far_branch, far_jump};
+use crate::direct::{comes_out, far_branch, far_jump, is_unread};
 use crate::site::Site;
 use ec_code::code::{Op, Operand, Test, Variable};
 use ec_machine_code::homes::Home;
@@ -152,14 +152,17 @@ impl<'a> Site<'a> {
         }
     }
 
-    /// The step on words for the step at a place, where there is one: none for a copy that is done already, and none for a truth value that
-    /// the next step asks for.
-    #[tactic(auto, using(crate::proofs::Led::no_steps, crate::proofs::Led::question_steps, crate::proofs::Led::answered_steps, crate::proofs::Led::copying_steps, crate::proofs::Led::own_steps, crate::proofs::Led::named_steps, crate::proofs::Led::asked_steps, crate::proofs::Led::telling_steps, crate::proofs::Led::setting_steps))]
+    /// The step on words for the step at a place, where there is one: none for a copy that is done already or that nothing reads, and none
+    /// for a truth value that the next step asks for.
+    #[tactic(auto, using(crate::proofs::Led::unread_steps, crate::proofs::Led::no_steps, crate::proofs::Led::question_steps, crate::proofs::Led::answered_steps, crate::proofs::Led::copying_steps, crate::proofs::Led::own_steps, crate::proofs::Led::named_steps, crate::proofs::Led::asked_steps, crate::proofs::Led::telling_steps, crate::proofs::Led::setting_steps))]
     pub(crate) fn step_at(&self, place: usize, op: &Op) -> Option<Step>
         requires led { IsLed self.now }
         requires there { place < length self.now.code.now }
         ensures { listed result ≡ spec.steps_of (home_there self.now) (direct.laid_op self.now.code.now place op.now) }
     {
+        if is_unread(self.code, place, op) {
+            return None;
+        }
         match self.joined_before(place) {
             Some(Joined::Into(_)) => None,
             Some(Joined::Asks { .. }) => self.step_of(op),
@@ -176,12 +179,15 @@ impl<'a> Site<'a> {
     }
 
     /// How the code goes on behind the step at a place, where this isn't the next one.
-    #[tactic(auto, using(crate::proofs::Led::no_ending, crate::proofs::Led::asking_ending, crate::proofs::Led::answered_ending, crate::proofs::Led::copying_ending, crate::proofs::Led::own_ending))]
+    #[tactic(auto, using(crate::proofs::Led::unread_ending, crate::proofs::Led::no_ending, crate::proofs::Led::asking_ending, crate::proofs::Led::answered_ending, crate::proofs::Led::copying_ending, crate::proofs::Led::own_ending))]
     pub(crate) fn ending_at(&self, place: usize, op: &Op) -> Option<Ending>
         requires led { IsLed self.now }
         requires there { place < length self.now.code.now }
         ensures { result ≡ spec.ending_of (home_there self.now) (direct.laid_op self.now.code.now place op.now) }
     {
+        if is_unread(self.code, place, op) {
+            return None;
+        }
         match self.joined_before(place) {
             Some(Joined::Into(_)) => None,
             Some(Joined::Asks { test, wanted }) => self.ending_asking(place, test, wanted, op),

@@ -27,7 +27,7 @@ use Rattle.ec_code.proofs.Among.{in_among, same_is}
 use Rattle.ec_machine_code.specs.Direct.{answered, asked_for, asking, asks_by, asks_divisor, copied_from, copied_to, copying, done_already}
 use Rattle.ec_machine_code.specs.Direct.{far_over, if_so, into, into_named, is_divisor, is_known, is_live, is_nothing, is_unled, joined_at, joined_before}
 use Rattle.ec_machine_code.specs.Direct.{joined_if, joined_line, joined_of, joined_with, keeps, laid_by, laid_from, laid_op, led_far, led_to}
-use Rattle.ec_machine_code.specs.Direct.{left_out, marked, marked_one, reads_field, tells, told_by, unless, variable_if, variable_in}
+use Rattle.ec_machine_code.specs.Direct.{is_unread, left_out, made_if, marked, marked_one, reads_field, tells, told_by, unless, unmade, variable_if, variable_in}
 use Rattle.ec_machine_code.specs.declared.joined.Joined.{Joined}
 use Rattle.ec_machine_code.specs.declared.joined.Joined.TheVariants.{Asks, Into, Kept, Tells}
 use Rattle.ec_machine_code.specs.Layout.{ops_of}
@@ -115,6 +115,11 @@ pub none_made : (home : Variable → Home) (to : Variable) (t : Test) (wanted : 
 none_made home to t wanted =
     let h = home to in
     ap (λ b. cond {A = List Step} b [] (step.Move h (source.Home h) ∷ [])) (same_home_self h)
+
+-- nor has one that nothing reads
+pub none_copied : (home : Variable → Home) (to : Variable) → steps_of home (op.Copy to (operand.Of to)) ≡ []
+none_copied home to =
+    let h = home to in ap (λ b. cond {A = List Step} b [] (step.Move h (source.Home h) ∷ [])) (same_home_self h)
 
 pub left_ending : (home : Variable → Home) (o : Op) → ending_of home (left_out o) ≡ ending_of home o
 left_ending home (op.Copy to from) = refl
@@ -667,10 +672,9 @@ pub rest_laid :
 rest_laid code q line row e stop =
     let rests = stop_rests line.op row stop in
     let before = rest_alone code q line row e rests in
-    let here : joined_of code q line.op ≡ None = ap (joined_of code q) rests ∙ never_joined code q (op.Rest row) (λ next. refl) in
-    let far : led_far code q line.op ≡ line.op = ap (led_far code q) rests ∙ sym rests in
-    ap (λ b. laid_by b (joined_of code q line.op) (led_far code q line.op)) before
-    ∙ ap (λ b. laid_by None b (led_far code q line.op)) here ∙ far
+    let here : joined_of code q (op.Rest row) ≡ None = never_joined code q (op.Rest row) (λ next. refl) in
+    ap (laid_op code q) rests ∙ ap (λ b. laid_by b (joined_of code q (op.Rest row)) (op.Rest row)) before
+    ∙ ap (λ b. laid_by None b (op.Rest row)) here ∙ sym rests
 
 into_rests : (n : ℕ) (o : Op) (row : StopRow) → into_named n o ≡ op.Rest row → o ≡ op.Rest row
 into_rests n (op.Rest r) row e = e
@@ -767,11 +771,29 @@ far_rests code q (op.Branch t wanted over) row e = absurd cc
 far_rests code q (op.Jump over) row e = absurd cc
 far_rests code q (op.Again back) row e = absurd cc
 
+unmade_rests : (o : Op) (row : StopRow) → unmade o ≡ op.Rest row → o ≡ op.Rest row
+unmade_rests (op.Copy to from) row e = absurd cc
+unmade_rests (op.Literal to index) row e = absurd cc
+unmade_rests (op.Itself to) row e = e
+unmade_rests (op.Field to field) row e = e
+unmade_rests (op.SetField field from) row e = e
+unmade_rests (op.Constant to index) row e = e
+unmade_rests (op.Compute how to left right) row e = e
+unmade_rests (op.Decide to u is_true) row e = e
+unmade_rests (op.Branch u is_true over) row e = e
+unmade_rests (op.Jump over) row e = e
+unmade_rests (op.Again back) row e = e
+unmade_rests (op.Rest r) row e = e
+
+made_rests : (b : Bool) (code : List Line) (q : ℕ) (o : Op) (row : StopRow) →
+    made_if b o (laid_by (joined_before code q) (joined_of code q o) (led_far code q o)) ≡ op.Rest row → o ≡ op.Rest row
+made_rests true code q o row e = unmade_rests o row e
+made_rests false code q o row e =
+    far_rests code q o row (laid_rests (joined_before code q) (joined_of code q o) (led_far code q o) row e)
+
 -- the line of a stop that is laid out
 pub stop_line :
     (code : List Line) (q : ℕ) (row : StopRow) → slice_get (ops_of code) q ≡ Some (op.Rest row) →
     (line : Line) × (slice_get code q ≡ Some line) × (line.op ≡ op.Rest row)
 stop_line code q row e =
-    let r = line_there code q (op.Rest row) e in
-    let far = laid_rests (joined_before code q) (joined_of code q r.0.op) (led_far code q r.0.op) row r.2 in
-    (r.0, r.1, far_rests code q r.0.op row far)
+    let r = line_there code q (op.Rest row) e in (r.0, r.1, made_rests (is_unread code q r.0.op) code q r.0.op row r.2)

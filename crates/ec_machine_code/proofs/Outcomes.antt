@@ -1,15 +1,16 @@
 -- Where the code of each step of three-address code leads.
 use Rattle.std.proofs.Common.{◌≡◌, ◌≢◌, ℕ, suc, ◌+◌, ◌-◌, List, [], ◌∷◌, drop, Option, Some, None, refl, sym, ap, ◌∙◌}
 use Rattle.std.proofs.Common.{subst, arith, Bool, true, false, if◌then◌else◌, inl, inr, ⊎_elim, option_map}
-use Rattle.std.specs.Prelude.{slice_get}
+use Rattle.std.specs.Prelude.{length, not, slice_get}
 use Rattle.std.proofs.lemmas.Bool.Decides.{nat_tests}
 use Rattle.std.proofs.lemmas.Option.{same_Some}
-use Rattle.ec_code.specs.Fine.{Behind, FineTest, FineRow, FineTop, GoesOn, Has, HaveTypes, IsGiven, IsIn, IsTaken, Passes, live_at}
+use Rattle.ec_code.specs.Fine.{Behind, FineTest, FineRow, FineTop, GoesOn, Has, HaveTypes, IsGiven, IsIn, IsTaken, Passes, Writes, live_at}
 use Rattle.ec_code.specs.Steps.{Done, Goes, Loops, Machine, NoCase, Rests, act, as_wanted, computed, decides, gives, on_numbers, on_two}
 use Rattle.ec_code.specs.Steps.{operand_at, own_field, passes, rests, stores, tested, variables_at, with_field, with_variable}
 use Rattle.ec_code.specs.declared.code.Live.{Live}
 use Rattle.ec_code.specs.declared.code.Op.{Op}
 use Rattle.ec_code.specs.declared.code.Op.TheVariants as op
+use Rattle.ec_code.specs.declared.code.Operand.TheVariants as operand
 use Rattle.ec_code.specs.declared.code.StopRow.{StopRow}
 use Rattle.ec_code.specs.declared.code.Test.{Test}
 use Rattle.ec_code.specs.declared.code.Variable.{Variable}
@@ -20,11 +21,12 @@ use Rattle.ec_machine_code.specs.Stops.{live_list, stop_at, stop_in, without}
 use Rattle.ec_code.specs.Live.{stays}
 use Rattle.ec_code.specs.Marks.{is_same, is_written}
 use Rattle.ec_code.specs.Activations.{walk}
-use Rattle.ec_machine_code.proofs.Direct.{LeadsPast, branch_leads, jump_leads, none_behind, none_led}
+use Rattle.ec_machine_code.proofs.Direct.{LeadsPast, branch_leads, jump_leads, none_behind, none_copied, none_led, not_live}
 use Rattle.ec_machine_code.proofs.Leading.{LeadsTo, knows_asked, leads_far, leads_to, walks_on}
-use Rattle.ec_machine_code.specs.Direct.{asked_for, far_over, joined_at, joined_before, joined_of, laid_op, led_far}
+use Rattle.ec_machine_code.specs.Direct.{asked_for, far_over, is_live, is_unread, joined_at, joined_before, joined_of, laid_op, led_far}
+use Rattle.ec_machine_code.specs.Direct.{made_if, unmade}
 use Rattle.ec_machine_code.specs.Fitting.{TestFits}
-use Rattle.ec_machine_code.specs.Layout.{plain_size}
+use Rattle.ec_machine_code.specs.Layout.{plain_size, words_of_steps}
 use Rattle.ec_machine_code.specs.Lowering.{branch, branch_by, ending_of, known, question_of, steps_of}
 use Rattle.ec_machine_code.specs.Micro.{CanAsk, Sight, asked}
 use Rattle.ec_machine_code.specs.Speaks.{Ends, Sees, Vocabulary}
@@ -40,8 +42,8 @@ use Rattle.ec_machine_code.proofs.Each.{Did, copies, decides_home, sets_field, t
 use Rattle.ec_machine_code.proofs.Operands.{asked_is, known_is}
 use Rattle.ec_machine_code.proofs.Goings.{Turns, answered, goes_on, runs_on}
 use Rattle.ec_machine_code.proofs.FineAt.{fine_at}
-use Rattle.ec_machine_code.proofs.Sites.{At, Site, end_of, ends_at, line_of, live_next, named, word_of}
-use Rattle.ec_machine_code.proofs.Standing.{Beside, Setting, Standing, passes_on}
+use Rattle.ec_machine_code.proofs.Sites.{At, Site, end_of, ends_at, flows_next, line_of, live_next, named, word_of}
+use Rattle.ec_machine_code.proofs.Standing.{Beside, Setting, Standing, needs_none, passes_on}
 use Rattle.ec_machine_code.proofs.Stretches.{does_all}
 
 -- ---- what is live at a stop
@@ -349,6 +351,47 @@ module _ {S : Type 0} (M : MachineMeaning S) (V : Vocabulary) (g : Setting M) (z
               (ap (ending_of z.home) is) refl refl;
         }
 
+  -- ---- what nothing reads
+
+  module _ (q : ℕ) (o : Op) (here : List Live) (at : At M V g z q o here) (single : joined_of z.of.code q o ≡ None) (s : S) (v : Sight)
+      (m : Machine) (stand : Standing M g z.home (named M V g z) here v m) (sees : Sees M g.f g.own s v.home)
+      (there : M.place s ≡ pc_of (word_of M V g z q)) (to : Variable) (r : Option Value) where
+    -- a step without words, where what is written isn't live behind it
+    skipped :
+        (t : StaticType) → laid_op z.of.code q o ≡ op.Copy to (operand.Of to) → Writes z.declared g.parts (drop (suc q) z.of.code) to t here →
+        is_live to (live_at z.of.code (suc q)) ≡ false → (u : Value) → Outcome q o here s v (Goes (with_variable m to u) 0)
+    skipped t laid flows dead u =
+        let x = op.Copy to (operand.Of to) in
+        let none : q + 0 ≡ q = omega arith in
+        let first : suc q ≡ suc (q + 0) = omega arith in
+        record {
+          far = 0;
+          walks = refl;
+          after = v;
+          ends = passed q o x here at laid s v there sees (ap (λ ms. length (words_of_steps V ms)) (none_copied z.home to)) refl;
+          stand = subst (λ k. Standing M g z.home (named M V g z) (live_at z.of.code k) v (with_variable m to u)) first
+              (needs_none M g z.home (named M V g z) here (live_at z.of.code (suc q)) to u v m (flows_next M V g z q here to t flows)
+              (not_live (live_at z.of.code (suc q)) to dead) stand);
+          same = λ address out. refl;
+          lands = ap (joined_at z.of.code) none ∙ none_behind z.of.code q (line_of o here) at single;
+        }
+
+    made_or_not :
+        (t : StaticType) (b : Bool) → is_live to (live_at z.of.code (suc q)) ≡ b → unmade o ≡ op.Copy to (operand.Of to) →
+        laid_op z.of.code q o ≡ made_if (not b) o (led_far z.of.code q o) → Writes z.declared g.parts (drop (suc q) z.of.code) to t here →
+        (laid_op z.of.code q o ≡ led_far z.of.code q o → (u : Value) → r ≡ Some u → Outcome q o here s v (Goes (with_variable m to u) 0)) →
+        Outcome q o here s v (gives m to r)
+    made_or_not t true live without same flows made = by r refl
+      where
+        by : (k : Option Value) → r ≡ k → Outcome q o here s v (gives m to k)
+        by None e = tt
+        by (Some u) e = made same u e
+    made_or_not t false dead without same flows made = by r
+      where
+        by : (k : Option Value) → Outcome q o here s v (gives m to k)
+        by None = tt
+        by (Some u) = skipped t (same ∙ without) flows dead u
+
   -- ---- all of them
 
   text_some : (o : Option (List ℕ)) (u : Value) → option_map Str o ≡ Some u → (t : List ℕ) × (o ≡ Some t) × (Str t ≡ u)
@@ -356,8 +399,8 @@ module _ {S : Type 0} (M : MachineMeaning S) (V : Vocabulary) (g : Setting M) (z
   text_some (Some t) u e = (t, refl, same_Some (Str t) u e)
 
   pub leads :
-      (q : ℕ) (o : Op) (here : List Live) → At M V g z q o here → laid_op z.of.code q o ≡ led_far z.of.code q o →
-      joined_of z.of.code q o ≡ None →
+      (q : ℕ) (o : Op) (here : List Live) → At M V g z q o here →
+      laid_op z.of.code q o ≡ made_if (is_unread z.of.code q o) o (led_far z.of.code q o) → joined_of z.of.code q o ≡ None →
       (s : S) (v : Sight) (m : Machine) →
       Standing M g z.home (named M V g z) here v m → Sees M g.f g.own s v.home → M.place s ≡ pc_of (word_of M V g z q) →
       Outcome q o here s v (act g.parts.literals g.self m o)
@@ -365,14 +408,16 @@ module _ {S : Type 0} (M : MachineMeaning S) (V : Vocabulary) (g : Setting M) (z
       let o = op.Copy to from in
       let fine = fine_at z.declared g.parts z.number z.of q (line_of o here) z.fine at in
       let fits = z.numbers q (line_of o here) at in
-      given q o here at same single s v m stand sees there to (operand_at m from)
-      (λ u e. follows q o here at same single s v m stand sees there (with_variable m to u) refl refl
+      made_or_not q o here at single s v m stand sees there to (operand_at m from) fine.0 (is_live to (live_at z.of.code (suc q))) refl refl
+      same fine.2
+      (λ laid u e. follows q o here at laid single s v m stand sees there (with_variable m to u) refl refl
       (copies M V g z q o here at v m stand to from fine.0 u refl fine.1 fits fine.2 e))
   leads q (op.Literal to index) here at same single s v m stand sees there =
       let o = op.Literal to index in
       let fine = fine_at z.declared g.parts z.number z.of q (line_of o here) z.fine at in
-      given q o here at same single s v m stand sees there to (option_map Str (slice_get g.parts.literals index))
-      (λ u e. follows q o here at same single s v m stand sees there (with_variable m to u) refl refl
+      made_or_not q o here at single s v m stand sees there to (option_map Str (slice_get g.parts.literals index)) _
+      (is_live to (live_at z.of.code (suc q))) refl refl same fine.1
+      (λ laid u e. follows q o here at laid single s v m stand sees there (with_variable m to u) refl refl
       (let t = text_some (slice_get g.parts.literals index) u e in
       subst (λ w. Did M V g z q o here at v m stand (steps_of z.home o) (with_variable m to w)) t.2
       (takes_literal M V g z q o here at v m stand to index _ t.0 refl fine.1 t.1)))

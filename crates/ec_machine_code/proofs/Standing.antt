@@ -279,6 +279,24 @@ module _ {S : Type 0} (M : MachineMeaning S) (g : Setting M) where
           many = omega (arith, count, many);
         }
 
+    -- nothing reads the variable behind it
+    pub needs_none :
+        (here next : List Live) (to : Variable) (u : Value) (v : Sight) (m : Machine) → Flows to here next →
+        ((t : StaticType) → Has next to t → ⊥) → Standing home named here v m → Standing home named next v (with_variable m to u)
+    needs_none here next to u v m flows dead old =
+        let count = same_count m to u in
+        let many = old.many in
+        record {
+          held = λ x t l. ⊎_elim
+              (λ (e : x ≡ to). absurd (dead t (subst (λ y. Has next y t) e l)))
+              (λ (other : (x ≢ to) × Has here x t).
+              let h = old.held x t other.1 in
+              record { value = h.value; is = set_other m to x u h.value other.0 h.is; fits = h.fits; holds = h.holds })
+              (flows x t l);
+          ground = new_ground m to u v.bytes old.ground;
+          many = omega (arith, count, many);
+        }
+
     pub passes_on :
         (here next : List Live) (v : Sight) (m : Machine) → ((x : Variable) (t : StaticType) → Has next x t → Has here x t) →
         Standing home named here v m → Standing home named next v m

@@ -20,7 +20,7 @@ use Rattle.ec_machine_code.specs.Machine.{MachineMeaning}
 use Rattle.ec_machine_code.proofs.Direct.{HasNext, IsAsked, IsDead, IsDirect, IsKept, IsTold, branch_leads, is_joined, never_joined, none_behind, none_led, none_made}
 use Rattle.ec_machine_code.proofs.Leading.{LeadsTo, as_it_is, leads_far, leads_to, walks_on}
 use Rattle.ec_machine_code.specs.Direct.{done_already, far_over, joined_at, joined_before, joined_line, joined_of, laid_by, laid_op, led_far}
-use Rattle.ec_machine_code.specs.Direct.{left_out}
+use Rattle.ec_machine_code.specs.Direct.{is_unread, left_out, made_if}
 use Rattle.ec_machine_code.specs.Layout.{words_of_steps}
 use Rattle.ec_machine_code.specs.Lowering.{question_of, steps_of}
 use Rattle.ec_machine_code.specs.declared.joined.Joined.{Joined}
@@ -207,7 +207,12 @@ module _ {S : Type 0} (M : MachineMeaning S) (V : Vocabulary) (g : Setting M) (z
     laid_next : laid_op z.of.code (suc p) copy ≡ done_already n
     laid_next =
         let done : joined_at z.of.code p ≡ Some (Into n) = ap (joined_line z.of.code p) at ∙ direct in
-        ap (λ i. laid_by i (joined_of z.of.code (suc p) copy) copy) done
+        ap (λ i. made_if (is_unread z.of.code (suc p) copy) copy (laid_by i (joined_of z.of.code (suc p) copy) copy)) done
+        ∙ either_way (is_unread z.of.code (suc p) copy)
+      where
+        either_way : (b : Bool) → made_if b copy (done_already n) ≡ done_already n
+        either_way true = refl
+        either_way false = refl
 
     none_after : joined_before z.of.code (suc (suc p)) ≡ None
     none_after =
@@ -663,9 +668,10 @@ module _ {S : Type 0} (M : MachineMeaning S) (V : Vocabulary) (g : Setting M) (z
       by : (k : Option Joined) → joined_of z.of.code p line.op ≡ k →
           GetsTo s v p (walk g.parts.literals g.self p (line ∷ rest) zero m)
       by None single =
-          let same : laid_op z.of.code p line.op ≡ led_far z.of.code p line.op =
-          ap (λ i. laid_by i (joined_of z.of.code p line.op) (led_far z.of.code p line.op)) before
-          ∙ ap (λ i. laid_by None i (led_far z.of.code p line.op)) single in
+          let made : Op → Op = λ i. made_if (is_unread z.of.code p line.op) line.op i in
+          let same : laid_op z.of.code p line.op ≡ made (led_far z.of.code p line.op) =
+          ap (λ i. made (laid_by i (joined_of z.of.code p line.op) (led_far z.of.code p line.op))) before
+          ∙ ap (λ i. made (laid_by None i (led_far z.of.code p line.op))) single in
           behind p line rest m (act g.parts.literals g.self m line.op) s v at is stand sees there
           (leads M V g z p line.op line.live at same single s v m stand sees there) next
       by (Some (Into n)) joined =

@@ -3,8 +3,9 @@
 -- parts puts truth values into a temporary, and asks for them where its parts join: where nothing else reads one, the question is that of
 -- the part, and the value isn't made; and a question or a jump leads past jumps, and past questions whose answer is known on the way. It
 -- isn't asked whether something can be divided by a variable where the step before has told this to be other than 0. A field that the step
--- before has set to a variable isn't read: the variable is copied.
-use Rattle.std.specs.Prelude.{ℕ, zero, suc, ◌+◌, ◌^◌, ◌==◌, Bool, true, false, ◌&&◌, if◌then◌else◌, List, [], ◌∷◌, length, map, replicate}
+-- before has set to a variable isn't read: the variable is copied. And what nothing reads isn't copied, as the default of a variable that
+-- gets a value before it is read.
+use Rattle.std.specs.Prelude.{ℕ, zero, suc, ◌+◌, ◌^◌, ◌==◌, Bool, true, false, not, ◌&&◌, if◌then◌else◌, List, [], ◌∷◌, length, map, replicate}
 use Rattle.std.specs.Prelude.{Option, Some, None, nat_lt, slice_get, slice_set}
 use Rattle.ec_code.specs.Fine.{live_at}
 use Rattle.ec_code.specs.declared.code.Line.{Line}
@@ -246,9 +247,27 @@ laid_by None (Some Tells) o = o
 laid_by None (Some (Kept x)) o = o
 laid_by None None o = o
 
+-- ---- steps that aren't needed
+
+-- whether a step only gives a variable a value that nothing reads behind it
+abbrev pub is_unread : List Line → ℕ → Op → Bool
+is_unread code q (op.Copy to from) = not (is_live to (live_at code (suc q)))
+is_unread code q (op.Literal to index) = not (is_live to (live_at code (suc q)))
+is_unread code q _ = false
+
+-- such a step without words
+abbrev pub unmade : Op → Op
+unmade (op.Copy to from) = op.Copy to (operand.Of to)
+unmade (op.Literal to index) = op.Copy to (operand.Of to)
+unmade o = o
+
+abbrev pub made_if : Bool → Op → Op → Op
+made_if true o laid = unmade o
+made_if false o laid = laid
+
 -- the step that is laid out for one at place q
 abbrev pub laid_op : List Line → ℕ → Op → Op
-laid_op code q o = laid_by (joined_before code q) (joined_of code q o) (led_far code q o)
+laid_op code q o = made_if (is_unread code q o) o (laid_by (joined_before code q) (joined_of code q o) (led_far code q o))
 
 -- those for these lines, the first of which is at place p
 abbrev pub laid_from : List Line → ℕ → List Line → List Op
