@@ -366,6 +366,18 @@ fn print_products<K: Kind>(rt: &impl Print, alloc: Global, kind: &K) -> io::Resu
         rt,
         alloc,
         kind,
+        "r0 <- r0 # r1",
+        Step::Work {
+            how: Arithmetic::Remainder,
+            into: FIRST,
+            left: Source::Home(FIRST),
+            right: Source::Home(SECOND),
+        },
+    )?;
+    show(
+        rt,
+        alloc,
+        kind,
         "r0 <- r0 # 10",
         Step::Work {
             how: Arithmetic::Remainder,

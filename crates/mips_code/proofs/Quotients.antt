@@ -1,7 +1,7 @@
 -- What a division comes to that goes a way of its own by -1.
 use Rattle.std.proofs.Common.{◌≡◌, ◌≢◌, ℕ, zero, suc, ◌-◌, ◌/◌, ◌^◌, ◌<◌, ◌≤◌, refl, sym, ap, ◌∙◌, subst, arith, ⊎_elim, cond}
 use Rattle.std.proofs.Common.{true, false}
-use Rattle.std.specs.Prelude.{Bool, ◌==◌, ℤ, pos, negsuc, neg_ℤ, int_div, int_rem, unsigned_abs, FitsSigned, if◌then◌else◌}
+use Rattle.std.specs.Prelude.{Bool, ◌==◌, ℤ, pos, negsuc, neg_ℤ, int_div, int_lt, int_rem, unsigned_abs, FitsSigned, if◌then◌else◌}
 use Rattle.std.specs.Int.{w32, cast_unsigned}
 use Rattle.std.proofs.lemmas.Bool.{cases_lt}
 use Rattle.std.proofs.lemmas.Bool.Decides.{nat_tests}
@@ -10,18 +10,23 @@ use Rattle.ec_code.specs.declared.code.Arithmetic.TheVariants.{Quotient, Remaind
 use Rattle.ec_machine_code.specs.Micro.{reckoned}
 use Rattle.mips_isa.specs.declared.instr.MoveFrom.{MoveFrom}
 use Rattle.mips_isa.specs.declared.instr.MoveFrom.TheVariants.{Mfhi, Mflo}
+use Rattle.mips_isa.specs.declared.instr.ZeroBranch.TheVariants.{Bgtz}
 use Rattle.mips_machine.proofs.Divisions.{not_zero, quotient_fits, remainder_fits, signed_fits}
 use Rattle.mips_machine.proofs.Products.{high_signed, low_signed}
-use Rattle.mips_machine.specs.Values.{minus, quotient, remainder, signed}
+use Rattle.mips_machine.specs.Values.{is_zero_taken, minus, quotient, remainder, signed}
 
 -- what DIV leaves in HI or LO
 abbrev pub part : MoveFrom → ℕ → ℕ → ℕ
 part Mfhi x y = remainder x y
 part Mflo x y = quotient x y
 
--- where the divisor is -1, it is p
-abbrev pub divided : MoveFrom → (p x y : ℕ) → ℕ
-divided from p x y = if y == 2 ^ 32 - 1 then p else part from x y
+-- and what comes out where the divisor is -1
+abbrev pub minus_part : MoveFrom → ℕ → ℕ
+minus_part Mfhi x = 0
+minus_part Mflo x = minus 0 x
+
+abbrev pub divided : MoveFrom → (x y : ℕ) → ℕ
+divided from x y = if y == 2 ^ 32 - 1 then minus_part from x else part from x y
 
 fits_low : (z : ℤ) → FitsSigned w32 z → cast_unsigned w32 z < 2 ^ 32
 fits_low (pos n) f = omega (arith, ints, f.sfits)
@@ -33,7 +38,7 @@ not_minus_one y h e f =
     let no : ⊥ = grind (arith, nat_tests) in
     no
 
-pub part_low : (from : MoveFrom) (x y : ℕ) → x < 2 ^ 32 → y < 2 ^ 32 → y ≢ 0 → (y == 2 ^ 32 - 1) ≡ false → part from x y < 2 ^ 32
+part_low : (from : MoveFrom) (x y : ℕ) → x < 2 ^ 32 → y < 2 ^ 32 → y ≢ 0 → (y == 2 ^ 32 - 1) ≡ false → part from x y < 2 ^ 32
 part_low Mfhi x y h k some e =
     fits_low (int_rem (signed x) (signed y)) (remainder_fits (signed x) (signed y) (signed_fits x h))
 part_low Mflo x y h k some e =
@@ -73,6 +78,16 @@ minus_one y e =
     let is : y ≡ 2 ^ 32 - 1 = grind (arith, nat_tests) in
     ap signed is
 
+other_by : (t : Bool) (y : ℕ) → (y == 2 ^ 32 - 1) ≡ t → is_zero_taken Bgtz y ≡ true → t ≡ false
+other_by false y e above = refl
+other_by true y e above =
+    let below : is_zero_taken Bgtz y ≡ false = ap (int_lt (pos 0)) (minus_one y e) in
+    absurd (cc)
+
+-- a number above 0 isn't -1
+pub above_is_other : (y : ℕ) → is_zero_taken Bgtz y ≡ true → (y == 2 ^ 32 - 1) ≡ false
+above_is_other y above = other_by (y == 2 ^ 32 - 1) y refl above
+
 -- ---- what steps ask for
 
 quotient_by : (t : Bool) (x y : ℕ) → (y == 2 ^ 32 - 1) ≡ t → x < 2 ^ 32 → y < 2 ^ 32 → y ≢ 0 →
@@ -88,12 +103,12 @@ quotient_by false x y e h k some =
 pub quotient_at_once : (x y : ℕ) → x < 2 ^ 32 → y < 2 ^ 32 → y ≢ 0 → (y == 2 ^ 32 - 1) ≡ false → part Mflo x y ≡ reckoned Quotient x y
 quotient_at_once x y h k some e = quotient_by false x y e h k some
 
-pub quotient_is : (x y : ℕ) → x < 2 ^ 32 → y < 2 ^ 32 → y ≢ 0 → divided Mflo (minus 0 x) x y ≡ reckoned Quotient x y
+pub quotient_is : (x y : ℕ) → x < 2 ^ 32 → y < 2 ^ 32 → y ≢ 0 → divided Mflo x y ≡ reckoned Quotient x y
 quotient_is x y h k some = quotient_by (y == 2 ^ 32 - 1) x y refl h k some
 
 remainder_by : (t : Bool) (x y : ℕ) → (y == 2 ^ 32 - 1) ≡ t → cond t 0 (remainder x y) ≡ reckoned Remainder x y
 remainder_by true x y e = sym (ap (λ z. cast_unsigned w32 (int_rem (signed x) z)) (minus_one y e) ∙ remainder_by_minus_one x)
 remainder_by false x y e = refl
 
-pub remainder_is : (x y : ℕ) → divided Mfhi 0 x y ≡ reckoned Remainder x y
+pub remainder_is : (x y : ℕ) → divided Mfhi x y ≡ reckoned Remainder x y
 remainder_is x y = remainder_by (y == 2 ^ 32 - 1) x y refl

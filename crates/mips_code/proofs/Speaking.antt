@@ -42,8 +42,8 @@ use Rattle.mips_machine.specs.Machine.{mips_register}
 use Rattle.mips_machine.specs.Values.{extended, plus}
 use Rattle.mips_machine.specs.declared.machine.MipsMachine.{MipsMachine}
 use Rattle.mips_code.specs.Meaning.{mips_meaning}
-use Rattle.mips_code.specs.Words.{answer_words, branch, branch_at, branch_distance, branch_of, by_minus_one, compared_words, constant_words, copied_words, difference_by}
-use Rattle.mips_code.specs.Words.{difference_words, divided_words, division_by, far_words, from_hilo, hilo_words, is_other_number}
+use Rattle.mips_code.specs.Words.{answer_words, aside_words, branch, branch_at, branch_distance, branch_of, by_minus_one, compared_words, constant_words, copied_words, difference_by}
+use Rattle.mips_code.specs.Words.{difference_words, division_by, far_words, from_hilo, hilo_words, is_other_number}
 use Rattle.mips_code.specs.Words.{is_small}
 use Rattle.mips_code.specs.Words.{jump_words, less_by, less_words, loaded_words, lui, mips_far, mips_near, near_words, no_op, number_words}
 use Rattle.mips_code.specs.Words.{on_number, on_registers, one_words, slot_offset, small, small_negative, source_register}
@@ -376,28 +376,28 @@ none_less : (a : Option ℕ) (rd : ℕ) (left right : Source) → Free (less_by 
 none_less (Some n) rd left right = none_single immediates.Slti rd left n
 none_less None rd left right = none_two operations.Slt rd left right
 
-none_divided : (first : ℕ) (from : MoveFrom) (rd a c : ℕ) → first ≢ 0x0000000C → Free (divided_words first from rd a c)
-none_divided first from rd a c h =
-    none_cons _ _ h
-    (none_cons _ _ (on_number_not immediates.Addiu 11 0 0xFFFF)
-    (none_cons _ _ (branch_not branches.Beq c 11 5)
-    (none_cons _ _ no_op_not
-    (none_cons _ _ (r_not a c 0 0x1A (omega arith))
-    (none_cons _ _ (from_not from 10)
-    (none_cons _ _ no_op_not (none_cons _ _ no_op_not (none_one _ (on_registers_not operations.Addu rd 10 0)))))))))
-
 none_hilo : (o : HiLoOperation) (from : MoveFrom) (rd a c : ℕ) → Free (hilo_words o from rd a c)
 none_hilo o from rd a c =
     none_cons _ _ (r_not a c 0 (hilo_funct o) (hilo_high o))
     (none_cons _ _ (from_not from rd) (none_cons _ _ no_op_not (none_one _ no_op_not)))
 
-none_first : (from : MoveFrom) (a : ℕ) → by_minus_one from a ≢ 0x0000000C
-none_first Mflo a = on_registers_not operations.Subu 10 0 a
-none_first Mfhi a = on_registers_not operations.Addu 10 0 0
+minus_not : (from : MoveFrom) (rd a : ℕ) → by_minus_one from rd a ≢ 0x0000000C
+minus_not Mflo rd a = on_registers_not operations.Subu rd 0 a
+minus_not Mfhi rd a = on_registers_not operations.Addu rd 0 0
+
+none_aside : (from : MoveFrom) (rd a c : ℕ) → Free (aside_words from rd a c)
+none_aside from rd a c =
+    none_cons _ _ (i_not 0x07 c 0 7 (omega arith))
+    (none_cons _ _ no_op_not
+    (none_cons _ _ (on_number_not immediates.Addiu 10 0 0xFFFF)
+    (none_cons _ _ (branch_not branches.Bne c 10 4)
+    (none_cons _ _ no_op_not
+    (none_cons _ _ (minus_not from rd a) (none_cons _ _ (branch_not branches.Beq 0 0 5) (none_one _ no_op_not)))))))
 
 none_division : (t : Bool) (from : MoveFrom) (rd a c : ℕ) → Free (division_by t from rd a c)
 none_division true from rd a c = none_hilo Div from rd a c
-none_division false from rd a c = none_divided (by_minus_one from a) from rd a c (none_first from a)
+none_division false from rd a c =
+    none_append (aside_words from rd a c) (hilo_words Div from rd a c) (none_aside from rd a c) (none_hilo Div from rd a c)
 
 none_work : (how : Arithmetic) (rd : ℕ) (left right : Source) → Free (work_words how rd left right)
 none_work Sum rd left right = none_sum (small left) (small right) rd left right

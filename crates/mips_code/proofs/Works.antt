@@ -16,10 +16,9 @@ use Rattle.ec_machine_code.specs.declared.step.Relation.TheVariants.{Less, Same}
 use Rattle.ec_machine_code.specs.declared.step.Source.{Source}
 use Rattle.ec_machine_code.specs.declared.step.Source.TheVariants as source
 use Rattle.ec_world.specs.Same.{is_same_truth}
-use Rattle.ec_target.proofs.Climbing.{climbs_two}
 use Rattle.ec_target.specs.Code.{pc_of, word_at}
 use Rattle.mips_isa.specs.Parts.{low_of}
-use Rattle.mips_isa.specs.declared.instr.Branch.TheVariants.{Beq}
+use Rattle.mips_isa.specs.declared.instr.Branch.TheVariants.{Beq, Bne}
 use Rattle.mips_isa.specs.declared.instr.HiLoOperation.{HiLoOperation}
 use Rattle.mips_isa.specs.declared.instr.HiLoOperation.TheVariants.{Div, Mult}
 use Rattle.mips_isa.specs.declared.instr.Immediate.{Immediate}
@@ -28,23 +27,23 @@ use Rattle.mips_isa.specs.declared.instr.MoveFrom.{MoveFrom}
 use Rattle.mips_isa.specs.declared.instr.MoveFrom.TheVariants.{Mfhi, Mflo}
 use Rattle.mips_isa.specs.declared.instr.Operation.{Operation}
 use Rattle.mips_isa.specs.declared.instr.Operation.TheVariants.{Addu, Slt, Sltu, Subu}
-use Rattle.mips_machine.proofs.Effects.{branch_climbs, hilo_goes, immediate_goes, moved, operation_goes, read_climbs}
+use Rattle.mips_isa.specs.declared.instr.ZeroBranch.TheVariants.{Bgtz}
+use Rattle.mips_machine.proofs.Effects.{branch_climbs, hilo_goes, immediate_goes, moved, operation_goes, read_climbs, zero_branch_climbs}
 use Rattle.mips_machine.proofs.Effects.{reckoned as hilo_set, register-wrote_other, register-wrote_same, wrote}
 use Rattle.mips_machine.specs.Machine.{data_of, mips_goes, mips_place, mips_register, mips_rests}
 use Rattle.mips_machine.specs.Step.{branch_target, hilo_of}
-use Rattle.mips_machine.specs.Values.{extended, hi_value, immediate_number, immediate_overflows, immediate_value, is_undefined}
+use Rattle.mips_machine.specs.Values.{extended, hi_value, immediate_number, immediate_overflows, immediate_value, is_undefined, is_zero_taken}
 use Rattle.mips_machine.specs.Values.{lo_value, minus}
 use Rattle.mips_machine.specs.Values.{operation_overflows, operation_value, plus}
 use Rattle.mips_machine.specs.declared.machine.MipsMachine.{MipsMachine}
-use Rattle.mips_code.specs.Words.{answer_words, branch, by_minus_one, difference_by, difference_words, divided_words, division_by}
-use Rattle.mips_code.specs.Words.{from_hilo}
-use Rattle.mips_code.specs.Words.{hilo_words, is_other_number, is_small, less_by, less_words, negative, no_op, on_hilo, on_number}
+use Rattle.mips_code.specs.Words.{answer_words, aside_words, by_minus_one, difference_by, difference_words, divided_words, division_by}
+use Rattle.mips_code.specs.Words.{hilo_words, is_other_number, is_small, less_by, less_words, negative, on_number}
 use Rattle.mips_code.specs.Words.{on_registers}
 use Rattle.mips_code.specs.Words.{one_words, small, small_negative, source_register, source_words, sum_by, two_words, with_two, work_words}
 use Rattle.mips_code.specs.Words.{zero_word}
-use Rattle.mips_code.proofs.Quotients.{divided, part, part_low, quotient_at_once, quotient_is, remainder_is}
+use Rattle.mips_code.proofs.Quotients.{above_is_other, divided, minus_part, part, quotient_at_once, quotient_is, remainder_is}
 use Rattle.mips_code.proofs.SourcesLemmas.{Finds, Made, Word, r0, reg, sixteen, small_is, source_got, source_low, source_other}
-use Rattle.mips_code.proofs.Ways.{Gave, Seen, Way, has_back, has_front, nth_at, rest_at, same_or_not, seen_still, way_by, way_on}
+use Rattle.mips_code.proofs.Ways.{Gave, Seen, Way, has_back, has_front, nth_at, same_or_not, seen_still, way_by, way_on}
 use Rattle.mips_code.proofs.Ways.{way_one, way_to}
 
 gave_wrote : (m : MipsMachine) (r w pc : ℕ) → 0 < r → r < 2 ^ 5 → Gave m (wrote m r w pc) r w
@@ -158,122 +157,127 @@ left_part : (from : MoveFrom) (x y : ℕ) → left_in Div from x y ≡ part from
 left_part Mfhi x y = refl
 left_part Mflo x y = refl
 
--- the words from the branch on: $10 has p and $11 has 2^32 - 1
+-- a division that goes past itself by -1
 module _ (code : List ℕ) (b : Bytes) (rd : ℕ) (pos : 0 < rd) (small_rd : rd < 2 ^ 5) where
-  abbrev rest_words : MoveFrom → (a c : ℕ) → List ℕ
-  rest_words from a c =
-      branch Beq c 11 5 ∷ no_op ∷ on_hilo Div a c ∷ from_hilo from 10 ∷ no_op ∷ no_op ∷ on_registers Addu rd 10 0 ∷ []
+  -- what is made behind a way on which none but scratch registers are set
+  made_behind : (n u : MipsMachine) (j mid k end w : ℕ) → Way code n b j mid k u b → mid ≤ k →
+      ((q : ℕ) → 12 ≤ q → mips_register u q ≡ mips_register n q) → Made code u b k end rd w → Made code n b j end rd w
+  made_behind n u j mid k end w way rise same made = record {
+    last = made.last;
+    way = way_on code n u made.last b b b j mid k end k end way made.way rise;
+    gave = record {
+      rests = made.gave.rests;
+      holds = made.gave.holds;
+      others = λ q h ne. made.gave.others q h ne ∙ same q h;
+    };
+  }
 
-  -- the last word
-  brings : (n : MipsMachine) (j w : ℕ) → mips_rests n → n.flow.pc ≡ pc_of j → j + 1 ≤ words_end → w < 2 ^ 32 → mips_register n 10 ≡ w →
-      HasAt code j (on_registers Addu rd 10 0 ∷ []) → Made code n b j (j + 1) rd w
-  brings n j w rest pc low fits e has =
-      let sum : plus w 0 ≡ w = omega (arith, fits) in
-      subst (λ x. Made code n b j (j + 1) rd x) sum
-      (operates code b rd pos small_rd Addu n j 10 0 w 0 (λ p q. refl) rest pc low (lit< tt) (lit< tt) e refl has)
+  negates : (from : MoveFrom) (n : MipsMachine) (j a x : ℕ) → mips_rests n → n.flow.pc ≡ pc_of j → j + 1 ≤ words_end → a < 2 ^ 5 →
+      mips_register n a ≡ x → HasAt code j (by_minus_one from rd a ∷ []) → Made code n b j (j + 1) rd (minus_part from x)
+  negates Mflo n j a x rest pc low small_a ea has =
+      operates code b rd pos small_rd Subu n j 0 a 0 x (λ p q. refl) rest pc low (lit< tt) small_a refl ea has
+  negates Mfhi n j a x rest pc low small_a ea has =
+      operates code b rd pos small_rd Addu n j 0 0 0 0 (λ p q. refl) rest pc low (lit< tt) (lit< tt) refl refl has
 
-  branches : (t : Bool) (from : MoveFrom) (n : MipsMachine) (j a c p x y : ℕ) → (y == 2 ^ 32 - 1) ≡ t → mips_rests n → n.flow.pc ≡ pc_of j →
-      j + 7 ≤ words_end → a < 2 ^ 5 → c < 2 ^ 5 → y ≢ 0 → p < 2 ^ 32 → x < 2 ^ 32 → y < 2 ^ 32 → mips_register n a ≡ x →
-      mips_register n c ≡ y → mips_register n 10 ≡ p → mips_register n 11 ≡ 2 ^ 32 - 1 → HasAt code j (rest_words from a c) →
-      Made code n b j (j + 7) rd (cond t p (part from x y))
-  branches true from n j a c p x y e rest pc low small_a small_c some fits x_low y_low ea ec ep em has =
-      let ws = rest_words from a c in
-      let taken : (mips_register n c == mips_register n 11) ≡ true = ap (λ z. z == mips_register n 11) ec ∙ ap (λ z. y == z) em ∙ e in
-      let to : branch_target n.flow.pc (sixteen 5 (lit< tt)) ≡ pc_of (j + 6) = omega (arith, pc, low) in
-      let one = branch_climbs code n b rest j pc Beq (reg c small_c) (reg 11 (lit< tt)) (sixteen 5 (lit< tt)) (pc_of (j + 6))
-      (ap (λ z. cond z (branch_target n.flow.pc (sixteen 5 (lit< tt))) (plus (plus n.flow.pc 4) 4)) taken ∙ to)
+  -- the last four words
+  divides_at : (from : MoveFrom) (n : MipsMachine) (j a c x y : ℕ) → mips_rests n → n.flow.pc ≡ pc_of (j + 8) → j + 12 ≤ words_end →
+      a < 2 ^ 5 → c < 2 ^ 5 → y ≢ 0 → (y == 2 ^ 32 - 1) ≡ false → mips_register n a ≡ x → mips_register n c ≡ y →
+      HasAt code j (divided_words from rd a c) → Made code n b (j + 8) (j + 12) rd (part from x y)
+  divides_at from n j a c x y rest pc low small_a small_c some other ea ec has =
+      let ws = hilo_words Div from rd a c in
+      let here : HasAt code (j + 8) ws = has_back code j (aside_words from rd a c) ws has in
+      subst (λ w. Made code n b (j + 8) (j + 12) rd w) (left_part from x y)
+      (subst (λ e. Made code n b (j + 8) e rd (left_in Div from x y)) (let e : j + 8 + 4 ≡ j + 12 = omega arith in e)
+      (leaves code b rd pos small_rd Div from n (j + 8) a c x y (defined x y some other) rest pc (omega (arith, low)) small_a small_c ea ec
+      here))
+
+  -- from the second branch on: $10 has 2^32 - 1
+  asks_minus_one : (t : Bool) (from : MoveFrom) (n : MipsMachine) (j a c x y : ℕ) → (y == 2 ^ 32 - 1) ≡ t → mips_rests n →
+      n.flow.pc ≡ pc_of (j + 3) → j + 12 ≤ words_end → a < 2 ^ 5 → c < 2 ^ 5 → y ≢ 0 → mips_register n a ≡ x → mips_register n c ≡ y →
+      mips_register n 10 ≡ 2 ^ 32 - 1 → HasAt code j (divided_words from rd a c) →
+      Made code n b (j + 3) (j + 12) rd (cond t (minus_part from x) (part from x y))
+  asks_minus_one false from n j a c x y e rest pc low small_a small_c some ea ec em has =
+      let ws = divided_words from rd a c in
+      let far = branch_target n.flow.pc (sixteen 4 (lit< tt)) in
+      let same : (mips_register n c == mips_register n 10) ≡ false = ap (λ z. z == mips_register n 10) ec ∙ ap (λ z. y == z) em ∙ e in
+      let to : far ≡ pc_of (j + 8) = omega (arith, pc, low) in
+      let one = branch_climbs code n b rest (j + 3) pc Bne (reg c small_c) (reg 10 (lit< tt)) (sixteen 4 (lit< tt)) (pc_of (j + 8))
+      (ap (λ z. cond (not z) far (plus (plus n.flow.pc 4) 4)) same ∙ to)
+      (nth_at code j ws 3 _ n.flow.pc has (omega (arith, pc)) refl) (nth_at code j ws 4 0 (n.flow.pc + 4) has (omega (arith, pc)) refl)
+      (omega (arith, pc, low)) in
+      let n1 = moved n (pc_of (j + 8)) in
+      made_behind n n1 (j + 3) (j + 3 + 2) (j + 8) (j + 12) (part from x y) (way_by code n n1 b b (j + 3) (j + 3 + 2) (j + 8) one refl)
+      (omega arith) (λ q h. refl) (divides_at from n1 j a c x y refl refl low small_a small_c some e ea ec has)
+  asks_minus_one true from n j a c x y e rest pc low small_a small_c some ea ec em has =
+      let ws = divided_words from rd a c in
+      let same : (mips_register n c == mips_register n 10) ≡ true = ap (λ z. z == mips_register n 10) ec ∙ ap (λ z. y == z) em ∙ e in
+      let behind : plus (plus n.flow.pc 4) 4 ≡ pc_of (j + 5) = omega (arith, pc, low) in
+      let one = branch_climbs code n b rest (j + 3) pc Bne (reg c small_c) (reg 10 (lit< tt)) (sixteen 4 (lit< tt)) (pc_of (j + 5))
+      (ap (λ z. cond (not z) (branch_target n.flow.pc (sixteen 4 (lit< tt))) (plus (plus n.flow.pc 4) 4)) same ∙ behind)
+      (nth_at code j ws 3 _ n.flow.pc has (omega (arith, pc)) refl) (nth_at code j ws 4 0 (n.flow.pc + 4) has (omega (arith, pc)) refl)
+      (omega (arith, pc, low)) in
+      let n1 = moved n (pc_of (j + 5)) in
+      let two = negates from n1 (j + 5) a x refl refl (omega (arith, low)) small_a ea (tail_at code j ws 5 _ has refl) in
+      let n2 = two.last in
+      let here = two.way.at in
+      let at : n2.flow.pc ≡ pc_of (j + 6) = omega (arith, here) in
+      let to : branch_target n2.flow.pc (sixteen 5 (lit< tt)) ≡ pc_of (j + 12) = omega (arith, at, low) in
+      let three = branch_climbs code n2 b two.gave.rests (j + 6) at Beq r0 r0 (sixteen 5 (lit< tt)) (pc_of (j + 12)) to
+      (nth_at code j ws 6 _ n2.flow.pc has (omega (arith, at)) refl) (nth_at code j ws 7 0 (n2.flow.pc + 4) has (omega (arith, at)) refl)
+      (omega (arith, at, low)) in
+      let n3 = moved n2 (pc_of (j + 12)) in
+      let way1 = way_on code n n1 n2 b b b (j + 3) (j + 3 + 2) (j + 5) (j + 5 + 1) (j + 5) (j + 5 + 1)
+      (way_by code n n1 b b (j + 3) (j + 3 + 2) (j + 5) one refl) two.way (omega arith) in
+      let way2 = way_on code n n2 n3 b b b (j + 3) (j + 5 + 1) (j + 6) (j + 6 + 2) (j + 5 + 1) (j + 12) way1
+      (way_by code n2 n3 b b (j + 6) (j + 6 + 2) (j + 12) three refl) (omega arith) in
+      record {
+        last = n3;
+        way = way_to code n n3 b b (j + 3) (j + 6 + 2) (j + 3) (j + 12) (j + 12) (j + 12) way2 (omega arith) (omega arith) refl;
+        gave = record { rests = refl; holds = two.gave.holds; others = λ q h ne. two.gave.others q h ne };
+      }
+
+  -- all of them, by whether the divisor is above 0
+  pub divides : (t : Bool) (from : MoveFrom) (n : MipsMachine) (j a c x y : ℕ) → is_zero_taken Bgtz y ≡ t → mips_rests n →
+      n.flow.pc ≡ pc_of j → j + 12 ≤ words_end → a < 2 ^ 5 → c < 2 ^ 5 → a ≢ 10 → c ≢ 10 → y ≢ 0 → mips_register n a ≡ x →
+      mips_register n c ≡ y → HasAt code j (divided_words from rd a c) → Made code n b j (j + 12) rd (divided from x y)
+  divides true from n j a c x y e rest pc low small_a small_c a10 c10 some ea ec has =
+      let ws = divided_words from rd a c in
+      let far = branch_target n.flow.pc (sixteen 7 (lit< tt)) in
+      let above : is_zero_taken Bgtz (mips_register n c) ≡ true = ap (is_zero_taken Bgtz) ec ∙ e in
+      let to : far ≡ pc_of (j + 8) = omega (arith, pc, low) in
+      let one = zero_branch_climbs code n b rest j pc Bgtz (reg c small_c) (sixteen 7 (lit< tt)) (pc_of (j + 8))
+      (ap (λ z. cond z far (plus (plus n.flow.pc 4) 4)) above ∙ to)
       (nth_at code j ws 0 _ n.flow.pc has (omega (arith, pc)) refl) (nth_at code j ws 1 0 (n.flow.pc + 4) has (omega (arith, pc)) refl)
       (omega (arith, pc, low)) in
-      let n1 = moved n (pc_of (j + 6)) in
-      let two = brings n1 (j + 6) p refl refl (omega (arith, low)) fits ep (tail_at code j ws 6 _ has refl) in
-      record {
-        last = two.last;
-        way = way_on code n n1 two.last b b b j (j + 2) (j + 6) (j + 7) (j + 6) (j + 7) (way_by code n n1 b b j (j + 2) (j + 6) one refl)
-            (way_to code n1 two.last b b (j + 6) (j + 6 + 1) (j + 6) (j + 7) (j + 6 + 1) (j + 7) two.way (omega arith) (omega arith)
-            (omega arith)) (omega arith);
-        gave = record { rests = two.gave.rests; holds = two.gave.holds; others = λ q h ne. two.gave.others q h ne };
-      }
-  branches false from n j a c p x y e rest pc low small_a small_c some fits x_low y_low ea ec ep em has =
-      let ws = rest_words from a c in
-      let rc = mips_register n c in
-      let ra = mips_register n a in
-      let passed : (rc == mips_register n 11) ≡ false = ap (λ z. z == mips_register n 11) ec ∙ ap (λ z. y == z) em ∙ e in
+      let n1 = moved n (pc_of (j + 8)) in
+      let other = above_is_other y e in
+      subst (λ w. Made code n b j (j + 12) rd w) (sym (ap (λ z. cond z (minus_part from x) (part from x y)) other))
+      (made_behind n n1 j (j + 2) (j + 8) (j + 12) (part from x y) (way_by code n n1 b b j (j + 2) (j + 8) one refl) (omega arith)
+      (λ q h. refl) (divides_at from n1 j a c x y refl refl low small_a small_c some other ea ec has))
+  divides false from n j a c x y e rest pc low small_a small_c a10 c10 some ea ec has =
+      let ws = divided_words from rd a c in
+      let m1 = 2 ^ 32 - 1 in
+      let on = pc_of (j + 2) + 4 in
+      let above : is_zero_taken Bgtz (mips_register n c) ≡ false = ap (is_zero_taken Bgtz) ec ∙ e in
       let behind : plus (plus n.flow.pc 4) 4 ≡ pc_of (j + 2) = omega (arith, pc, low) in
-      let one = branch_climbs code n b rest j pc Beq (reg c small_c) (reg 11 (lit< tt)) (sixteen 5 (lit< tt)) (pc_of (j + 2))
-      (ap (λ z. cond z (branch_target n.flow.pc (sixteen 5 (lit< tt))) (plus (plus n.flow.pc 4) 4)) passed ∙ behind)
+      let one = zero_branch_climbs code n b rest j pc Bgtz (reg c small_c) (sixteen 7 (lit< tt)) (pc_of (j + 2))
+      (ap (λ z. cond z (branch_target n.flow.pc (sixteen 7 (lit< tt))) (plus (plus n.flow.pc 4) 4)) above ∙ behind)
       (nth_at code j ws 0 _ n.flow.pc has (omega (arith, pc)) refl) (nth_at code j ws 1 0 (n.flow.pc + 4) has (omega (arith, pc)) refl)
       (omega (arith, pc, low)) in
       let n1 = moved n (pc_of (j + 2)) in
-      let on = pc_of (j + 2) + 4 in
-      let n2 = hilo_set n1 (hi_value Div ra rc) (lo_value Div ra rc) on in
-      let fine : is_undefined Div ra rc ≡ false = ap (λ z. is_undefined Div ra z) ec ∙ ap (λ z. is_undefined Div z y) ea
-      ∙ defined x y some e in
-      let two = hilo_goes code n1 b refl Div (reg a small_a) (reg c small_c) fine
-      (nth_at code j ws 2 _ (pc_of (j + 2)) has refl refl) (omega (arith, low)) in
-      let three = read_climbs code n2 b refl (j + 3) (omega arith) from (reg 10 (lit< tt)) (nth_at code j ws 3 _ on has (omega arith) refl)
-      (nth_at code j ws 4 0 (on + 4) has (omega arith) refl) (nth_at code j ws 5 0 (on + 8) has (omega arith) refl) (omega (arith, low))
-      (omega arith) in
-      let w = hilo_of from (data_of n2 b) in
-      let n3 = wrote n2 10 w (on + 12) in
-      let is : w ≡ part from x y = read_left Div from n2 b ra rc refl refl ∙ ap (λ z. part from ra z) ec ∙ ap (λ z. part from z y) ea in
-      let held : mips_register n3 10 ≡ part from x y = register-wrote_same n2 10 w (on + 12) (omega arith) (lit< tt) ∙ is in
-      let at : n3.flow.pc ≡ pc_of (j + 6) = omega arith in
-      let four = brings n3 (j + 6) (part from x y) refl at (omega (arith, low)) (part_low from x y x_low y_low some e) held
-      (tail_at code j ws 6 _ has refl) in
-      let way1 = way_on code n n1 n2 b b b j (j + 2) (j + 2) (j + 2 + 1) (j + 2) (j + 2 + 1)
-      (way_by code n n1 b b j (j + 2) (j + 2) one refl) (way_one code n1 n2 b b (j + 2) refl two (omega arith)) (omega arith) in
-      let way2 = way_on code n n2 n3 b b b j (j + 2 + 1) (j + 3) (j + 3 + 3) (j + 2 + 1) (j + 6) way1
-      (way_by code n2 n3 b b (j + 3) (j + 3 + 3) (j + 6) three at) (omega arith) in
-      record {
-        last = four.last;
-        way = way_on code n n3 four.last b b b j (j + 3 + 3) (j + 6) (j + 7) (j + 6) (j + 7) way2
-            (way_to code n3 four.last b b (j + 6) (j + 6 + 1) (j + 6) (j + 7) (j + 6 + 1) (j + 7) four.way (omega arith) (omega arith)
-            (omega arith)) (omega arith);
-        gave = record {
-          rests = four.gave.rests;
-          holds = four.gave.holds;
-          others = λ q h ne. four.gave.others q h ne ∙ register-wrote_other n2 10 w (on + 12) q (λ e. omega (arith, e, h));
-        };
-      }
-
-  -- all of them: $10 gets p by the first
-  pub divides : (from : MoveFrom) (n : MipsMachine) (j first a c p x y : ℕ) → mips_rests n → n.flow.pc ≡ pc_of j → j + 9 ≤ words_end →
-      a < 2 ^ 5 → c < 2 ^ 5 → a ≢ 10 → a ≢ 11 → c ≢ 10 → c ≢ 11 → y ≢ 0 → p < 2 ^ 32 → x < 2 ^ 32 → y < 2 ^ 32 → mips_register n a ≡ x →
-      mips_register n c ≡ y → mips_goes code n b (wrote n 10 p (n.flow.pc + 4)) b → HasAt code j (divided_words first from rd a c) →
-      Made code n b j (j + 9) rd (divided from p x y)
-  divides from n j first a c p x y rest pc low small_a small_c a10 a11 c10 c11 some fits x_low y_low ea ec one has =
-      let ws = divided_words first from rd a c in
-      let on = n.flow.pc + 4 in
-      let n1 = wrote n 10 p on in
-      let m1 = 2 ^ 32 - 1 in
-      let two : mips_goes code n1 b (wrote n1 11 m1 (on + 4)) b =
-      immediate_goes code n1 b refl Addiu (reg 11 (lit< tt)) r0 (sixteen 0xFFFF (lit< tt)) refl
-      (nth_at code j ws 1 _ on has (omega (arith, pc)) refl) (omega (arith, pc, low)) (omega arith) in
-      let n2 = wrote n1 11 m1 (on + 4) in
-      let at : n2.flow.pc ≡ pc_of (j + 2) = omega (arith, pc) in
-      let kept : (q : ℕ) → q ≢ 10 → q ≢ 11 → mips_register n2 q ≡ mips_register n q = λ q ne nf.
-      register-wrote_other n1 11 m1 (on + 4) q nf ∙ register-wrote_other n 10 p on q ne in
-      let held : mips_register n2 10 ≡ p =
-      register-wrote_other n1 11 m1 (on + 4) 10 (λ e. omega (arith, e)) ∙ register-wrote_same n 10 p on (omega arith) (lit< tt) in
-      let tail : HasAt code (j + 2) (rest_words from a c) =
-      subst (λ i. HasAt code i (rest_words from a c)) (let e : j + 1 + 1 ≡ j + 2 = omega arith in e)
-      (rest_at code (j + 1) (on_number Addiu 11 0 0xFFFF) (rest_words from a c)
-      (rest_at code j first (on_number Addiu 11 0 0xFFFF ∷ rest_words from a c) has)) in
-      let far = branches (y == 2 ^ 32 - 1) from n2 (j + 2) a c p x y refl refl at (omega (arith, low)) small_a small_c some fits
-      x_low y_low (kept a a10 a11 ∙ ea) (kept c c10 c11 ∙ ec) held
-      (register-wrote_same n1 11 m1 (on + 4) (omega arith) (lit< tt)) tail in
-      record {
-        last = far.last;
-        way = way_on code n n2 far.last b b b j (j + 2) (j + 2) (j + 9) (j + 2) (j + 9)
-            (way_by code n n2 b b j (j + 2) (j + 2) (climbs_two (mips_goes code) mips_place j n b n1 b n2 b pc one (omega (arith, pc)) two) at)
-            (way_to code n2 far.last b b (j + 2) (j + 2 + 7) (j + 2) (j + 9) (j + 2 + 7) (j + 9) far.way (omega arith) (omega arith)
-            (omega arith)) (omega arith);
-        gave = record {
-          rests = far.gave.rests;
-          holds = far.gave.holds;
-          others = λ q h ne. far.gave.others q h ne ∙ kept q (λ e. omega (arith, e, h)) (λ e. omega (arith, e, h));
-        };
-      }
+      let n2 = wrote n1 10 m1 on in
+      let two : mips_goes code n1 b n2 b =
+      immediate_goes code n1 b refl Addiu (reg 10 (lit< tt)) r0 (sixteen 0xFFFF (lit< tt)) refl
+      (nth_at code j ws 2 _ (pc_of (j + 2)) has refl refl) (omega (arith, low)) (omega arith) in
+      let at : n2.flow.pc ≡ pc_of (j + 3) = omega arith in
+      let kept : (q : ℕ) → q ≢ 10 → mips_register n2 q ≡ mips_register n q = λ q ne. register-wrote_other n1 10 m1 on q ne in
+      let three = asks_minus_one (y == 2 ^ 32 - 1) from n2 j a c x y refl refl at low small_a small_c some (kept a a10 ∙ ea)
+      (kept c c10 ∙ ec) (register-wrote_same n1 10 m1 on (omega arith) (lit< tt)) has in
+      let way = way_on code n n1 n2 b b b j (j + 2) (j + 2) (j + 2 + 1) (j + 2) (j + 2 + 1) (way_by code n n1 b b j (j + 2) (j + 2) one refl)
+      (way_one code n1 n2 b b (j + 2) refl two (omega arith)) (omega arith) in
+      made_behind n n2 j (j + 3) (j + 3) (j + 12) (divided from x y)
+      (way_to code n n2 b b j (j + 2 + 1) j (j + 3) (j + 2 + 1) (j + 3) way (omega arith) (omega arith) (omega arith)) (omega arith)
+      (λ q h. kept q (λ e. omega (arith, e, h))) three
 
 -- ---- tests
 
@@ -559,32 +563,11 @@ module _ (code : List ℕ) (f own : ℕ) (f_small : f < most_blocks) (own_small 
           (λ n j rest at room ea ec here. leaves code v.bytes rd pos small_rd Mult Mflo n j A C X Y refl rest at room a_low c_low ea ec
           here)
 
-      quotient_made : Y ≢ 0 → Makes (with_two left right (division_by false Mflo rd)) (reckoned Quotient X Y)
-      quotient_made some low has =
-          with_both left right (division_by false Mflo rd) rd (reckoned Quotient X Y) can_left can_right low
-          has (λ n j rest at room ea ec here.
-          let on = n.flow.pc + 4 in
-          let st = operation_goes code n v.bytes rest Subu (reg 10 (lit< tt)) r0 (reg A a_low) refl
-          (nth_at code j (divided_words (by_minus_one Mflo A) Mflo rd A C) 0 _ n.flow.pc here (omega (arith, at)) refl)
-          (omega (arith, at, room)) (omega arith) in
-          let one : mips_goes code n v.bytes (wrote n 10 (minus 0 X) on) v.bytes =
-          subst (λ x. mips_goes code n v.bytes (wrote n 10 (minus 0 x) on) v.bytes) ea st in
-          subst (λ x. Made code n v.bytes j (j + 9) rd x) (quotient_is X Y x_low y_low some)
-          (divides code v.bytes rd pos small_rd Mflo n j (by_minus_one Mflo A) A C (minus 0 X) X Y rest at room a_low c_low
-          (a_not 10 (omega arith) (omega arith)) (a_not 11 (omega arith) (omega arith)) (c_not 10 (omega arith) (omega arith))
-          (c_not 11 (omega arith) (omega arith)) some (omega arith) x_low y_low ea ec one here))
-
-      remainder_made : Y ≢ 0 → Makes (with_two left right (division_by false Mfhi rd)) (reckoned Remainder X Y)
-      remainder_made some low has =
-          with_both left right (division_by false Mfhi rd) rd (reckoned Remainder X Y) can_left can_right low
-          has (λ n j rest at room ea ec here.
-          let one = operation_goes code n v.bytes rest Addu (reg 10 (lit< tt)) r0 r0 refl
-          (nth_at code j (divided_words (by_minus_one Mfhi A) Mfhi rd A C) 0 _ n.flow.pc here (omega (arith, at)) refl)
-          (omega (arith, at, room)) (omega arith) in
-          subst (λ x. Made code n v.bytes j (j + 9) rd x) (remainder_is X Y)
-          (divides code v.bytes rd pos small_rd Mfhi n j (by_minus_one Mfhi A) A C 0 X Y rest at room a_low c_low
-          (a_not 10 (omega arith) (omega arith)) (a_not 11 (omega arith) (omega arith)) (c_not 10 (omega arith) (omega arith))
-          (c_not 11 (omega arith) (omega arith)) some (omega arith) x_low y_low ea ec one here))
+      divided_made : (from : MoveFrom) → Y ≢ 0 → Makes (with_two left right (division_by false from rd)) (divided from X Y)
+      divided_made from some low has =
+          with_both left right (division_by false from rd) rd (divided from X Y) can_left can_right low has
+          (λ n j rest at room ea ec here. divides code v.bytes rd pos small_rd (is_zero_taken Bgtz Y) from n j A C X Y refl rest at room
+          a_low c_low (a_not 10 (omega arith) (omega arith)) (c_not 10 (omega arith) (omega arith)) some ea ec here)
 
       -- by a number other than -1
       at_once : (from : MoveFrom) → Y ≢ 0 → is_other_number right ≡ true →
@@ -598,14 +581,18 @@ module _ (code : List ℕ) (f own : ℕ) (f_small : f < most_blocks) (own_small 
 
       quotient_made_by : (t : Bool) → is_other_number right ≡ t → Y ≢ 0 →
           Makes (with_two left right (division_by t Mflo rd)) (reckoned Quotient X Y)
-      quotient_made_by false e some = quotient_made some
+      quotient_made_by false e some =
+          same_made (with_two left right (division_by false Mflo rd)) (divided Mflo X Y) (reckoned Quotient X Y)
+          (quotient_is X Y x_low y_low some) (divided_made Mflo some)
       quotient_made_by true e some =
           same_made (with_two left right (division_by true Mflo rd)) (part Mflo X Y) (reckoned Quotient X Y)
           (quotient_at_once X Y x_low y_low some (other_number right v.home v.bytes can_right e)) (at_once Mflo some e)
 
       remainder_made_by : (t : Bool) → is_other_number right ≡ t → Y ≢ 0 →
           Makes (with_two left right (division_by t Mfhi rd)) (reckoned Remainder X Y)
-      remainder_made_by false e some = remainder_made some
+      remainder_made_by false e some =
+          same_made (with_two left right (division_by false Mfhi rd)) (divided Mfhi X Y) (reckoned Remainder X Y) (remainder_is X Y)
+          (divided_made Mfhi some)
       remainder_made_by true e some =
           same_made (with_two left right (division_by true Mfhi rd)) (part Mfhi X Y) (reckoned Remainder X Y) refl (at_once Mfhi some e)
 

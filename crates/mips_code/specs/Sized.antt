@@ -197,11 +197,11 @@ few_with_number : (o : Option ℕ) (x y : Source) → with_number_size o x y ≤
 few_with_number (Some n) x y = few_one x
 few_with_number None x y = few_two x y
 
-few_division : (t : Bool) → division_size t ≤ 9
+few_division : (t : Bool) → division_size t ≤ 12
 few_division true = omega arith
 few_division false = omega arith
 
-few_work : (how : Arithmetic) (x y : Source) → work_size how x y ≤ 13
+few_work : (how : Arithmetic) (x y : Source) → work_size how x y ≤ 16
 few_work Sum x y = omega (arith, few_sum (small x) (small y) x y)
 few_work Difference x y = omega (arith, few_with_number (small_negative y) x y)
 few_work Product x y = omega (arith, few_two x y)

@@ -46,7 +46,7 @@ with_number_size None left right = two_size left right
 -- of a division, whether it is by a number other than -1, behind the words of its sources
 abbrev pub division_size : Bool → ℕ
 division_size true = 4
-division_size false = 9
+division_size false = 12
 
 abbrev pub work_size : Arithmetic → Source → Source → ℕ
 work_size Sum left right = sum_size (small left) (small right) left right

@@ -1,5 +1,5 @@
 -- The words of steps on MIPS I. A source in a register is used as it is, and 0 is $0; a result goes straight into its register. $8 to
--- $11 are scratch: no step finds anything there. $30 has the frame, $23 the own object, $16 to $21 are homes. A no-op stands behind
+-- $10 are scratch: no step finds anything there. $30 has the frame, $23 the own object, $16 to $21 are homes. A no-op stands behind
 -- each load and in the slot of each branch and jump, and two behind each read of HI or LO: so nothing is pending between steps.
 use Rattle.std.specs.Prelude.{ℕ, ◌+◌, ◌-◌, ◌*◌, ◌%◌, ◌^◌, ◌==◌, ◌||◌, nat_le, nat_lt, Bool, true, false, not, if◌then◌else◌, List, [], ◌∷◌}
 use Rattle.std.specs.Prelude.{◌++◌, length, Option, Some, None}
@@ -54,6 +54,9 @@ from_hilo from rd = r_word 0 0 rd 0 (from_funct from)
 
 abbrev pub branch : Branch → (rs rt offset : ℕ) → ℕ
 branch row rs rt offset = i_word (branch_op row) rs rt offset
+
+abbrev pub bgtz : (rs offset : ℕ) → ℕ
+bgtz rs offset = i_word 0x07 rs 0 offset
 
 abbrev pub jump : ℕ → ℕ
 jump target = j_word 0x02 target
@@ -146,25 +149,27 @@ difference_words rd left right = difference_by (small_negative right) rd left ri
 abbrev pub hilo_words : HiLoOperation → MoveFrom → (rd a b : ℕ) → List ℕ
 hilo_words o from rd a b = on_hilo o a b ∷ from_hilo from rd ∷ no_op ∷ no_op ∷ []
 
--- By -1 nothing is divided, so that -2^31 by -1 never is: $10 gets the quotient or the remainder by -1, and keeps it where the branch
--- is taken; else it gets that of the division.
-abbrev pub divided_words : ℕ → MoveFrom → (rd a b : ℕ) → List ℕ
-divided_words by_minus_one from rd a b =
-    by_minus_one
-    ∷ on_number Addiu 11 0 0xFFFF
-    ∷ branch Beq b 11 5
+-- what a by -1 comes to: -a, and 0 is left
+abbrev pub by_minus_one : MoveFrom → (rd a : ℕ) → ℕ
+by_minus_one Mflo rd a = on_registers Subu rd 0 a
+by_minus_one Mfhi rd a = on_registers Addu rd 0 0
+
+-- where the divisor is above 0, past them; by -1 they make what comes out, and go on past four words more; else they come to these
+abbrev pub aside_words : MoveFrom → (rd a b : ℕ) → List ℕ
+aside_words from rd a b =
+    bgtz b 7
     ∷ no_op
-    ∷ on_hilo Div a b
-    ∷ from_hilo from 10
+    ∷ on_number Addiu 10 0 0xFFFF
+    ∷ branch Bne b 10 4
     ∷ no_op
+    ∷ by_minus_one from rd a
+    ∷ branch Beq 0 0 5
     ∷ no_op
-    ∷ on_registers Addu rd 10 0
     ∷ []
 
--- a by -1 is -a, and leaves 0
-abbrev pub by_minus_one : MoveFrom → ℕ → ℕ
-by_minus_one Mflo a = on_registers Subu 10 0 a
-by_minus_one Mfhi a = on_registers Addu 10 0 0
+-- By -1 nothing is divided, so that -2^31 by -1 never is; by a number above 0 it is after one question.
+abbrev pub divided_words : MoveFrom → (rd a b : ℕ) → List ℕ
+divided_words from rd a b = aside_words from rd a b ++ hilo_words Div from rd a b
 
 -- a number other than -1
 abbrev pub is_other_number : Source → Bool
@@ -174,7 +179,7 @@ is_other_number (source.Word n) = not (n == 2 ^ 32 - 1)
 -- By such a number it is divided at once.
 abbrev pub division_by : Bool → MoveFrom → (rd a b : ℕ) → List ℕ
 division_by true from rd a b = hilo_words Div from rd a b
-division_by false from rd a b = divided_words (by_minus_one from a) from rd a b
+division_by false from rd a b = divided_words from rd a b
 
 abbrev pub division_words : MoveFrom → ℕ → Source → Source → List ℕ
 division_words from rd left right = with_two left right (division_by (is_other_number right) from rd)

@@ -7,7 +7,7 @@ ghost use Rattle.mips_code.specs.Words as spec;
 use ec_base::list::Seq;
 use mips_isa::field::{Amount, Register, Sixteen, Target};
 use mips_isa::instr::{
-    Branch, HiLoOperation, Immediate, Instr, Load, MoveFrom, Operation, Shift, Store,
+    Branch, HiLoOperation, Immediate, Instr, Load, MoveFrom, Operation, Shift, Store, ZeroBranch,
 };
 use mips_isa::word::encode;
 use std::alloc::AllocError;
@@ -23,11 +23,8 @@ pub(crate) const A: Register = Register { number: 8 };
 /// Scratch of second sources.
 pub(crate) const B: Register = Register { number: 9 };
 
-/// Scratch of quotients and remainders.
-pub(crate) const RESULT: Register = Register { number: 10 };
-
 /// Has -1, to compare divisors with.
-pub(crate) const MINUS_ONE: Register = Register { number: 11 };
+pub(crate) const MINUS_ONE: Register = Register { number: 10 };
 
 /// Has the address of the own object.
 pub(crate) const OWN: Register = Register { number: 23 };
@@ -149,6 +146,17 @@ pub(crate) fn branch(branch: Branch, rs: Register, rt: Register, offset: Sixteen
         branch,
         rs,
         rt,
+        offset,
+    }
+}
+
+/// The branch that is taken where a register has a number above 0.
+pub(crate) fn bgtz(rs: Register, offset: Sixteen) -> Instr
+    ensures { word_of result ≡ spec.bgtz rs.number offset.bits }
+{
+    Instr::BranchOnZero {
+        branch: ZeroBranch::Bgtz,
+        rs,
         offset,
     }
 }

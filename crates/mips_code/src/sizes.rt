@@ -84,14 +84,14 @@ fn with_number_size(number: Option<u32>, left: Source, right: Source) -> u32
 /// Without the words of its sources.
 fn division_size(right: Source) -> u32
     ensures is { result ≡ sizes.division_size (spec.is_other_number right) }
-    ensures few { result ≤ 9 }
+    ensures few { result ≤ 12 }
 {
-    if is_other_number(right) { 4 } else { 9 }
+    if is_other_number(right) { 4 } else { 12 }
 }
 
 fn work_size(how: Arithmetic, left: Source, right: Source) -> u32
     ensures is { result ≡ sizes.work_size how left right }
-    ensures few { result ≤ 13 }
+    ensures few { result ≤ 16 }
 {
     match how {
         Arithmetic::Sum => sum_size(left, right),
@@ -138,7 +138,7 @@ fn move_size(into: Home, from: Source) -> u32
 /// How many words a step has.
 pub(crate) fn step_size(step: Step) -> u32
     ensures is { result ≡ sizes.step_size step }
-    ensures few { result ≤ 14 }
+    ensures few { result ≤ 17 }
 {
     match step {
         Step::Move { into, from } => move_size(into, from),

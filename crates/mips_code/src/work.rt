@@ -6,7 +6,7 @@ ghost use Rattle.mips_isa.specs.Words.{word_of};
 ghost use Rattle.mips_code.specs.Words as spec;
 
 use crate::instructions::{
-    A, B, MINUS_ONE, RESULT, ZERO, branch, on_hilo, on_number, on_registers, put, put_delayed,
+    A, B, MINUS_ONE, ZERO, bgtz, branch, on_hilo, on_number, on_registers, put, put_delayed,
     put_from_hilo,
 };
 use crate::numbers::{is_other_number, small, small_negative};
@@ -130,39 +130,50 @@ fn put_product(
 }
 
 /// The instruction that makes what a division by -1 comes to.
-fn by_minus_one(from: MoveFrom, a: Register) -> Instr
-    ensures { word_of result ≡ spec.by_minus_one from a.number }
+fn by_minus_one(from: MoveFrom, rd: Register, a: Register) -> Instr
+    ensures { word_of result ≡ spec.by_minus_one from rd.number a.number }
 {
     match from {
-        MoveFrom::Mflo => on_registers(Operation::Subu, RESULT, ZERO, a),
-        MoveFrom::Mfhi => on_registers(Operation::Addu, RESULT, ZERO, ZERO),
+        MoveFrom::Mflo => on_registers(Operation::Subu, rd, ZERO, a),
+        MoveFrom::Mfhi => on_registers(Operation::Addu, rd, ZERO, ZERO),
     }
 }
 
-/// Writes the words that divide where the divisor isn't -1; an instruction makes what comes out where it is.
-fn put_divided(
+/// Writes the words that go past a division by -1.
+fn put_aside(
     words: &mut Seq<u32>,
-    by_minus_one: Instr,
     from: MoveFrom,
     rd: Register,
     a: Register,
     b: Register,
 ) -> Result<(), AllocError>
-    ensures { OnOk result (words.new ≡ words.old
-        ++ spec.divided_words (word_of by_minus_one) from rd.number a.number b.number) }
+    ensures { OnOk result (words.new ≡ words.old ++ spec.aside_words from rd.number a.number b.number) }
 {
-    put(words, by_minus_one)?;
+    put_delayed(words, bgtz(b, Sixteen { bits: 7 }))?;
     put(
         words,
         on_number(Immediate::Addiu, MINUS_ONE, ZERO, Sixteen { bits: 0xFFFF }),
     )?;
     put_delayed(
         words,
-        branch(Branch::Beq, b, MINUS_ONE, Sixteen { bits: 5 }),
+        branch(Branch::Bne, b, MINUS_ONE, Sixteen { bits: 4 }),
     )?;
-    put(words, on_hilo(HiLoOperation::Div, a, b))?;
-    put_from_hilo(words, from, RESULT)?;
-    put(words, on_registers(Operation::Addu, rd, RESULT, ZERO))
+    put(words, by_minus_one(from, rd, a))?;
+    put_delayed(words, branch(Branch::Beq, ZERO, ZERO, Sixteen { bits: 5 }))
+}
+
+/// Writes the words that divide by whichever number.
+fn put_divided(
+    words: &mut Seq<u32>,
+    from: MoveFrom,
+    rd: Register,
+    a: Register,
+    b: Register,
+) -> Result<(), AllocError>
+    ensures { OnOk result (words.new ≡ words.old ++ spec.divided_words from rd.number a.number b.number) }
+{
+    put_aside(words, from, rd, a, b)?;
+    put_hilo(words, HiLoOperation::Div, from, rd, a, b)
 }
 
 /// Writes the words that divide one register by another, which has a number other than -1 or may have any.
@@ -180,7 +191,7 @@ fn put_division_by(
     if is_other_number {
         put_hilo(words, HiLoOperation::Div, from, rd, a, b)
     } else {
-        put_divided(words, by_minus_one(from, a), from, rd, a, b)
+        put_divided(words, from, rd, a, b)
     }
 }
 
