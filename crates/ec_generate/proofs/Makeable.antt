@@ -262,12 +262,6 @@ module _ (d : Declared) (p : Parts) (fine : Fine d p) (limits : HasLimits p) (re
     laid_put : (q : ℕ) (line : Line) → slice_get o.code q ≡ Some line → CanPutAll registers (steps_of home (laid_op o.code q line.op))
     laid_put q line e = read_or_not (is_unread o.code q line.op) refl
       where
-        read_or_not : (b : Bool) → is_unread o.code q line.op ≡ b → CanPutAll registers (steps_of home (laid_op o.code q line.op))
-        read_or_not true m = subst (CanPutAll registers) (sym (unread_steps home o.code q line.op m)) tt
-        read_or_not false m =
-            subst (λ i. CanPutAll registers (steps_of home i)) (sym (made home o.code q line.op m))
-            (by (joined_before o.code q) (joined_of o.code q line.op) refl refl)
-
         by : (a b : Option Joined) → joined_before o.code q ≡ a → joined_of o.code q line.op ≡ b →
             CanPutAll registers (steps_of home (laid_by a b (led_far o.code q line.op)))
         by (Some (Into k)) b before is = subst (CanPutAll registers) (sym (nothing_moved home k)) tt
@@ -280,6 +274,12 @@ module _ (d : Declared) (p : Parts) (fine : Fine d p) (limits : HasLimits p) (re
         by None (Some (Asks t wanted)) before is = subst (CanPutAll registers) (sym (left_far home o.code q t wanted line.op is)) tt
         by None (Some Tells) before is = subst (CanPutAll registers) (sym (far_steps home o.code q line.op)) (own_put q line e)
         by None (Some (Kept x)) before is = subst (CanPutAll registers) (sym (far_steps home o.code q line.op)) (own_put q line e)
+
+        read_or_not : (b : Bool) → is_unread o.code q line.op ≡ b → CanPutAll registers (steps_of home (laid_op o.code q line.op))
+        read_or_not true m = subst (CanPutAll registers) (sym (unread_steps home o.code q line.op m)) tt
+        read_or_not false m =
+            subst (λ i. CanPutAll registers (steps_of home i)) (sym (made home o.code q line.op m))
+            (by (joined_before o.code q) (joined_of o.code q line.op) refl refl)
 
     steps : (q : ℕ) (i : Op) → slice_get (ops_of o.code) q ≡ Some i → CanPutAll registers (steps_of home i)
     steps q i e =
