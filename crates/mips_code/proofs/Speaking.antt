@@ -45,7 +45,7 @@ use Rattle.mips_code.specs.Meaning.{mips_meaning}
 use Rattle.mips_code.specs.Words.{answer_words, aside_words, branch, branch_at, branch_distance, branch_of, by_minus_one, compared_words, constant_words, copied_words, difference_by}
 use Rattle.mips_code.specs.Words.{difference_words, division_by, far_words, from_hilo, hilo_words, is_other_number}
 use Rattle.mips_code.specs.Words.{is_small}
-use Rattle.mips_code.specs.Words.{jump_words, less_by, less_words, loaded_words, lui, mips_far, mips_near, near_words, no_op, number_words}
+use Rattle.mips_code.specs.Words.{jump_words, less_by, less_words, loaded_words, lui, mips_far, mips_near, near_words, number_words}
 use Rattle.mips_code.specs.Words.{on_number, on_registers, one_words, slot_offset, small, small_negative, source_register}
 use Rattle.mips_code.specs.Words.{source_words, step_words, stored_words, sum_by, sw, taken_where, target_register, target_words}
 use Rattle.mips_code.specs.Words.{two_words, with_two, work_words, zero_word}

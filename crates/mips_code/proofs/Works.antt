@@ -30,7 +30,7 @@ use Rattle.mips_isa.specs.declared.instr.Operation.TheVariants.{Addu, Slt, Sltu,
 use Rattle.mips_isa.specs.declared.instr.ZeroBranch.TheVariants.{Bgtz}
 use Rattle.mips_machine.proofs.Effects.{branch_climbs, hilo_goes, immediate_goes, moved, operation_goes, read_climbs, zero_branch_climbs}
 use Rattle.mips_machine.proofs.Effects.{reckoned as hilo_set, register-wrote_other, register-wrote_same, wrote}
-use Rattle.mips_machine.specs.Machine.{data_of, mips_goes, mips_place, mips_register, mips_rests}
+use Rattle.mips_machine.specs.Machine.{data_of, mips_goes, mips_register, mips_rests}
 use Rattle.mips_machine.specs.Step.{branch_target, hilo_of}
 use Rattle.mips_machine.specs.Values.{extended, hi_value, immediate_number, immediate_overflows, immediate_value, is_undefined, is_zero_taken}
 use Rattle.mips_machine.specs.Values.{lo_value, minus}
