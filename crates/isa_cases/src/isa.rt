@@ -67,10 +67,10 @@ impl Isa {
 
     /// The word with this first byte in the memory of such a machine, and three alike behind it.
     pub fn word_of_bytes(self, first: u32, other: u32) -> u32 {
-        let (first, other) = (first % 256, other % 256);
+        let (first, other) = ((first % 256) as u8, (other % 256) as u8);
         match self {
-            Isa::Mips => first * 0x100_0000 + other * 0x1_0101,
-            Isa::Riscv => other * 0x101_0100 + first,
+            Isa::Mips => u32::from_be_bytes([first, other, other, other]),
+            Isa::Riscv => u32::from_le_bytes([first, other, other, other]),
         }
     }
 

@@ -7,6 +7,7 @@ mod isa;
 mod mips;
 mod riscv;
 mod run;
+mod spell;
 
 use crate::cases::run_table;
 use crate::error::TableError;

@@ -2,9 +2,13 @@
 
 ghost use Rattle.std.specs.Prelude.{◌≤◌};
 
+use crate::spell::{self, registers, with_address, with_number};
 use rv_isa::instr::Instr;
 use rv_isa::word::{decode, encode};
 use std::alloc::{AllocError, Global};
+
+/// What stands before the number of a register.
+const SIGN: &str = "x";
 
 /// The instruction of a word, as an assembler spells it; None where it is no instruction's, or the instruction has another word.
 pub fn spelled(alloc: Global, word: u32) -> Result<Option<String>, AllocError> {
@@ -17,8 +21,65 @@ pub fn spelled(alloc: Global, word: u32) -> Result<Option<String>, AllocError> {
     }
 }
 
-// The names of rows are those of the variants, but for their case.
 fn spelling(alloc: Global, instr: Instr) -> Result<String, AllocError> {
+    match instr {
+        Instr::BranchIf {
+            branch,
+            rs1,
+            rs2,
+            offset,
+        } => {
+            let far = signed(13, offset.bits);
+            spell::branch(alloc, &branch, SIGN, [rs1.number, rs2.number], far)
+        }
+        Instr::LoadFrom {
+            load,
+            rd,
+            rs1,
+            offset,
+        } => {
+            let offset = signed(12, offset.bits);
+            with_address(alloc, &load, SIGN, [rd.number, rs1.number], offset)
+        }
+        Instr::StoreTo {
+            store,
+            rs1,
+            rs2,
+            offset,
+        } => {
+            let offset = signed(12, offset.bits);
+            with_address(alloc, &store, SIGN, [rs2.number, rs1.number], offset)
+        }
+        Instr::OnImmediate {
+            operation,
+            rd,
+            rs1,
+            number,
+        } => {
+            let number = signed(12, number.bits);
+            with_number(alloc, &operation, SIGN, [rd.number, rs1.number], number)
+        }
+        Instr::OnShift {
+            shift,
+            rd,
+            rs1,
+            amount,
+        } => {
+            let number = amount.bits.cast_signed();
+            with_number(alloc, &shift, SIGN, [rd.number, rs1.number], number)
+        }
+        Instr::OnRegisters {
+            operation,
+            rd,
+            rs1,
+            rs2,
+        } => registers(alloc, &operation, SIGN, [rd.number, rs1.number, rs2.number]),
+        _ => alone(alloc, instr),
+    }
+}
+
+// What is spelled as no other instruction is.
+fn alone(alloc: Global, instr: Instr) -> Result<String, AllocError> {
     match instr {
         Instr::Lui { rd, high } => format!(in alloc; "lui x{}, {}", rd.number, high.bits),
         Instr::Auipc { rd, high } => format!(in alloc; "auipc x{}, {}", rd.number, high.bits),
@@ -33,65 +94,7 @@ fn spelling(alloc: Global, instr: Instr) -> Result<String, AllocError> {
                 rs1.number
             )
         }
-        Instr::BranchIf {
-            branch,
-            rs1,
-            rs2,
-            offset,
-        } => {
-            let far = signed(13, offset.bits);
-            format!(in alloc; "{branch:?} x{}, x{}, .{far:+}", rs1.number, rs2.number)
-        }
-        Instr::LoadFrom {
-            load,
-            rd,
-            rs1,
-            offset,
-        } => {
-            let offset = signed(12, offset.bits);
-            format!(in alloc; "{load:?} x{}, {offset}(x{})", rd.number, rs1.number)
-        }
-        Instr::StoreTo {
-            store,
-            rs1,
-            rs2,
-            offset,
-        } => {
-            let offset = signed(12, offset.bits);
-            format!(in alloc; "{store:?} x{}, {offset}(x{})", rs2.number, rs1.number)
-        }
-        Instr::OnImmediate {
-            operation,
-            rd,
-            rs1,
-            number,
-        } => {
-            let number = signed(12, number.bits);
-            format!(in alloc; "{operation:?} x{}, x{}, {number}", rd.number, rs1.number)
-        }
-        Instr::OnShift {
-            shift,
-            rd,
-            rs1,
-            amount,
-        } => {
-            format!(in alloc;
-                "{shift:?} x{}, x{}, {}",
-                rd.number, rs1.number, amount.bits
-            )
-        }
-        Instr::OnRegisters {
-            operation,
-            rd,
-            rs1,
-            rs2,
-        } => {
-            format!(in alloc;
-                "{operation:?} x{}, x{}, x{}",
-                rd.number, rs1.number, rs2.number
-            )
-        }
-        Instr::Ecall => String::from_str(alloc, "ecall"),
+        _ => String::from_str(alloc, "ecall"),
     }
 }
 
