@@ -67,10 +67,12 @@ impl Isa {
 
     /// The word with this first byte in the memory of such a machine, and three alike behind it.
     pub fn word_of_bytes(self, first: u32, other: u32) -> u32 {
-        let (first, other) = ((first % 256) as u8, (other % 256) as u8);
+        let (first, other) = (first % 256, other % 256);
         match self {
-            Isa::Mips => u32::from_be_bytes([first, other, other, other]),
-            Isa::Riscv => u32::from_le_bytes([first, other, other, other]),
+            Isa::Mips => first
+                .wrapping_mul(0x100_0000)
+                .wrapping_add(other.wrapping_mul(0x1_0101)),
+            Isa::Riscv => other.wrapping_mul(0x101_0100).wrapping_add(first),
         }
     }
 

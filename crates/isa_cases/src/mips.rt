@@ -131,5 +131,5 @@ fn far(offset: Sixteen) -> i32 {
 }
 
 fn bytes(target: Target) -> u32 {
-    target.words * 4
+    target.words.wrapping_mul(4)
 }
