@@ -147,18 +147,15 @@ impl<'a> Case<'a> {
     }
 
     /// The program of its source.
-    fn program<'b>(
-        &'b self,
-        alloc: Global,
-        checked: &'b Checked,
-    ) -> Result<Program<'b>, AllocError> {
-        Program::new(alloc, &self.source, &checked.table, &checked.core)
+    fn program<'b>(&'b self, alloc: Global, checked: &'b Checked) -> Result<Program<'b>, Fault> {
+        let made = Program::new(alloc, &self.source, &checked.table, &checked.core);
+        made.map_err(Fault::Memory)
     }
 
     /// Prints the code.
     fn print(&self, rt: &impl Print, alloc: Global, checked: &Checked) -> Result<(), Fault> {
         let program = ManuallyDrop::new(self.program(alloc, checked)?);
-        let parts = ManuallyDrop::new(lower(alloc, &program)?);
+        let parts = ManuallyDrop::new(lower(alloc, &program).map_err(Fault::Memory)?);
         print_code(rt, alloc, &parts)
     }
 
@@ -219,9 +216,10 @@ fn push_line(text: &mut Vec<u8>, line: &str) -> Result<(), Fault> {
     Ok(())
 }
 
-/// The core of a source, with its table of types.
+/// The core of a source, with its table of types. A result goes whole into `map_err`: `?` on an error that can be copied would drop
+/// the tree.
 fn accepted(alloc: Global, text: &[u8]) -> Result<Checked, Fault> {
-    let tokens = lex(alloc, text)?;
-    let tree = parse(alloc, tokens.as_slice())?;
-    Ok(check(alloc, tree)?)
+    let tokens = ManuallyDrop::new(lex(alloc, text).map_err(Fault::NoTokens)?);
+    let tree = parse(alloc, tokens.as_slice()).map_err(Fault::NoTree)?;
+    check(alloc, tree).map_err(Fault::Refused)
 }

@@ -2,6 +2,7 @@
 ghost use Rattle.std.specs.Prelude.{◌≤◌, length};
 
 use crate::driver::{CodeRun, Stepwise};
+use crate::error::Fault;
 use ec_base::list::Seq;
 use ec_code::code::Parts;
 use ec_lowering::lower::lower;
@@ -29,18 +30,18 @@ pub struct Setting<'a> {
 }
 
 /// What a program's code comes to on 1 to 64 nodes.
-pub fn run_code(alloc: Global, program: &Program, setting: Setting) -> Result<Answer, AllocError>
+pub fn run_code(alloc: Global, program: &Program, setting: Setting) -> Result<Answer, Fault>
     requires { length setting.nodes.now ≤ 64 }
 {
-    let mut parts = ManuallyDrop::new(lower(alloc, program)?);
+    let mut parts = ManuallyDrop::new(lower(alloc, program).map_err(Fault::Memory)?);
     let globals = globals_of(alloc, &parts)?;
     let classes = replace(&mut parts.classes, Seq::new(alloc));
     let code = Code { parts: &parts };
     let count = setting.nodes.len() as u32;
-    let start: CodeRun = Running::start(alloc, code, count, classes, &globals)?;
-    let mut running = ManuallyDrop::new(start);
+    let start = Running::start(alloc, code, count, classes, &globals);
+    let mut running: ManuallyDrop<CodeRun> = ManuallyDrop::new(start.map_err(Fault::Memory)?);
     let ended = driven(&mut running, setting)?;
-    answer(alloc, program, &running, setting.nodes, ended)
+    Ok(answer(alloc, program, &running, setting.nodes, ended)?)
 }
 
 /// Does the entries up to the end.

@@ -1,5 +1,5 @@
 //! Steps of code as text.
-use crate::stops::stop_text;
+use crate::stops::{numbered, stop_text};
 use ec_code::code::{Arithmetic, Op, Operand, StopRow, Test, Variable};
 use std::alloc::{AllocError, Global};
 
@@ -16,7 +16,7 @@ fn operand_text(alloc: Global, x: Operand) -> Result<String, AllocError> {
         Operand::Of(x) => variable_text(alloc, x),
         Operand::Number(z) => format!(in alloc; "{z}"),
         Operand::Truth(b) => format!(in alloc; "{b}"),
-        Operand::Nil => format!(in alloc; "nil"),
+        Operand::Nil => String::from_str(alloc, "nil"),
     }
 }
 
@@ -88,16 +88,16 @@ pub fn step_text(alloc: Global, op: &Op) -> Result<String, AllocError> {
     match op {
         Op::Copy { to, from } => gets(alloc, *to, operand_text(alloc, *from)?.as_str()),
         Op::Literal { to, index } => {
-            gets(alloc, *to, format!(in alloc; "literal {index}")?.as_str())
+            gets(alloc, *to, numbered(alloc, "literal", *index)?.as_str())
         }
         Op::Itself { to } => gets(alloc, *to, "self"),
-        Op::Field { to, field } => gets(alloc, *to, format!(in alloc; "field {field}")?.as_str()),
+        Op::Field { to, field } => gets(alloc, *to, numbered(alloc, "field", *field)?.as_str()),
         Op::SetField { field, from } => {
             let from = operand_text(alloc, *from)?;
             format!(in alloc; "field {field} <- {from}")
         }
         Op::Constant { to, index } => {
-            gets(alloc, *to, format!(in alloc; "constant {index}")?.as_str())
+            gets(alloc, *to, numbered(alloc, "constant", *index)?.as_str())
         }
         Op::Compute {
             how,
@@ -115,8 +115,8 @@ pub fn step_text(alloc: Global, op: &Op) -> Result<String, AllocError> {
             let test = test_text(alloc, *test, *wanted)?;
             format!(in alloc; "if {test} over {over}")
         }
-        Op::Jump { over } => format!(in alloc; "over {over}"),
-        Op::Again { back } => format!(in alloc; "back {back}"),
+        Op::Jump { over } => numbered(alloc, "over", *over),
+        Op::Again { back } => numbered(alloc, "back", *back),
         Op::Rest(row) => rest_text(alloc, row),
     }
 }
