@@ -131,19 +131,33 @@ impl<'a> Case<'a> {
     /// Makes a call with the text of a fill, or one for each of its words or its numbers.
     fn call_filled(&mut self, rt: &impl Print, alloc: Global, fill: Row) -> Result<(), TableError> {
         if let Some(words) = fill.text.strip_prefix("each ") {
-            for word in words.split(' ') {
-                self.call_once(rt, alloc, Some(word))?;
-            }
-            return Ok(());
+            return self.call_each(rt, alloc, words);
         }
-        let Some(numbers) = fill.text.strip_prefix("from ") else {
-            let text = fill.text.strip_prefix("with ").unwrap_or("");
-            return self.call_once(rt, alloc, Some(text));
-        };
-        let (from, to) = match range_of(numbers) {
-            Ok(range) => range,
-            Err(fault) => return Err(fill.refused(fault)),
-        };
+        if let Some(numbers) = fill.text.strip_prefix("from ") {
+            return match range_of(numbers) {
+                Ok(range) => self.call_range(rt, alloc, range),
+                Err(fault) => Err(fill.refused(fault)),
+            };
+        }
+        let text = fill.text.strip_prefix("with ").unwrap_or("");
+        self.call_once(rt, alloc, Some(text))
+    }
+
+    /// Makes a call for each word.
+    fn call_each(&mut self, rt: &impl Print, alloc: Global, words: &str) -> Result<(), TableError> {
+        for word in words.split(' ') {
+            self.call_once(rt, alloc, Some(word))?;
+        }
+        Ok(())
+    }
+
+    /// Makes a call for each number of a range, whose ends are in it.
+    fn call_range(
+        &mut self,
+        rt: &impl Print,
+        alloc: Global,
+        (from, to): (u32, u32),
+    ) -> Result<(), TableError> {
         for number in from..=to {
             let text = format!(in alloc; "{number}")?;
             self.call_once(rt, alloc, Some(text.as_str()))?;
@@ -167,13 +181,24 @@ impl<'a> Case<'a> {
             return Ok(());
         }
         self.tally.failed = self.tally.failed.saturating_add(1);
+        Ok(self.tell_failed(rt, fill.unwrap_or("nothing"), &came, trial.wanted())?)
+    }
+
+    /// Tells of a call that came out otherwise.
+    fn tell_failed(
+        &self,
+        rt: &impl Print,
+        fill: &str,
+        came: &Outcome,
+        wanted: Option<&Outcome>,
+    ) -> io::Result<()> {
         let name = self.head.map_or("", |head| head.name());
-        println!(rt; "{name}: with {}", fill.unwrap_or("nothing"))?;
-        print_outcome(rt, "came", &came)?;
-        if let Some(wanted) = trial.wanted() {
-            print_outcome(rt, "wanted", wanted)?;
+        println!(rt; "{name}: with {fill}")?;
+        print_outcome(rt, "came", came)?;
+        match wanted {
+            Some(wanted) => print_outcome(rt, "wanted", wanted),
+            None => Ok(()),
         }
-        Ok(())
     }
 }
 

@@ -11,25 +11,37 @@ pub const MARK: u8 = b'^';
 pub fn text_of(alloc: Global, line: &str) -> Result<Option<Vec<u8>>, Fault> {
     let mut text = Vec::new(alloc);
     if let Some(digits) = line.strip_prefix("bytes ") {
-        for byte in digits.split(' ') {
-            text.push(u8::from_str_radix(byte, 16)?)?;
-        }
+        push_bytes(digits, &mut text)?;
     } else if let Some(repeated) = line.strip_prefix("times ") {
-        let Some((count, line)) = repeated.split_once(' ') else {
-            return Err(Fault::NoSuchLine);
-        };
-        let count: u32 = count.parse()?;
-        for number in 0..count {
-            let number = format!(in alloc; "{number}")?;
-            let line = line.replace(alloc, '~', number.as_str())?;
-            push_line(line.as_str(), &mut text)?;
-        }
+        push_lines(alloc, repeated, &mut text)?;
     } else if line.starts_with('|') || line.starts_with('>') {
         push_line(line, &mut text)?;
     } else {
         return Ok(None);
     }
     Ok(Some(text))
+}
+
+/// Adds the bytes of hexadecimal digits.
+fn push_bytes(digits: &str, text: &mut Vec<u8>) -> Result<(), Fault> {
+    for byte in digits.split(' ') {
+        text.push(u8::from_str_radix(byte, 16)?)?;
+    }
+    Ok(())
+}
+
+/// Adds the lines of `N LINE`, with their numbers in place of `~`.
+fn push_lines(alloc: Global, repeated: &str, text: &mut Vec<u8>) -> Result<(), Fault> {
+    let Some((count, line)) = repeated.split_once(' ') else {
+        return Err(Fault::NoSuchLine);
+    };
+    let count: u32 = count.parse()?;
+    for number in 0..count {
+        let number = format!(in alloc; "{number}")?;
+        let line = line.replace(alloc, '~', number.as_str())?;
+        push_line(line.as_str(), text)?;
+    }
+    Ok(())
 }
 
 /// Adds a line behind `|`, or a part of one behind `>`.

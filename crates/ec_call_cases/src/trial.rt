@@ -129,9 +129,7 @@ impl Trial {
     /// Adds what a line says of the call.
     fn set(&mut self, alloc: Global, line: &str) -> Result<(), Fault> {
         if let Some(words) = line.strip_prefix("call ") {
-            for word in words.split(' ') {
-                self.words.push(String::from_str(alloc, word)?)?;
-            }
+            self.add_words(alloc, words)?;
         } else if let Some(name) = line.strip_prefix("file ") {
             self.files.push(File {
                 name: String::from_str(alloc, name)?,
@@ -151,12 +149,26 @@ impl Trial {
         Ok(())
     }
 
+    /// Adds the words of a line.
+    fn add_words(&mut self, alloc: Global, words: &str) -> Result<(), Fault> {
+        for word in words.split(' ') {
+            self.words.push(String::from_str(alloc, word)?)?;
+        }
+        Ok(())
+    }
+
     /// Makes the call. The network that an earlier one left is taken over.
     pub fn call(&self, alloc: Global, net: &mut Network) -> Result<Outcome, AllocError> {
         let mut words = Vec::new(alloc);
         for word in &self.words {
             words.push(word.as_str())?;
         }
+        let files = self.shelf_files(alloc)?;
+        self.call_with(alloc, &words, &files, net)
+    }
+
+    /// Its files, as a shelf has them.
+    fn shelf_files(&self, alloc: Global) -> Result<Vec<MemFile<'_>>, AllocError> {
         let mut files = Vec::new(alloc);
         for file in &self.files {
             files.push(MemFile {
@@ -164,7 +176,7 @@ impl Trial {
                 bytes: file.text.as_slice(),
             })?;
         }
-        self.call_with(alloc, &words, &files, net)
+        Ok(files)
     }
 
     /// Makes the call with these words over a shelf of these files.
