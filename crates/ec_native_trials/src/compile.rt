@@ -25,7 +25,7 @@ use ec_parser::parse;
 use ec_world::node::Kind;
 use mips_code::mips::Mips;
 use rv_code::riscv::Riscv;
-use std::alloc::{AllocError, Global};
+use std::alloc::Global;
 use std::mem::ManuallyDrop;
 
 /// How many slots a frame has.
@@ -49,33 +49,34 @@ impl Target for MipsMeaning {
     ghost meaning = { mips_meaning };
 }
 
-/// The native code of a text for a kind of machine; where a number is given, with at most so many registers as homes.
+/// The native code of a text for a kind of machine; where a number is given, with at most so many registers as homes. A result goes whole
+/// into `map_err`: `?` on an error that can be copied would drop the tree.
 pub fn compile_text(
     alloc: Global,
     kind: Kind,
     registers: Option<u32>,
     text: &[u8],
 ) -> Result<Compiled, Fault> {
-    let tokens = ManuallyDrop::new(lex(alloc, text)?);
-    let tree = parse(alloc, tokens.as_slice())?;
-    let checked = ManuallyDrop::new(check(alloc, tree)?);
-    let program = ManuallyDrop::new(Program::new(alloc, text, &checked.table, &checked.core)?);
-    Ok(compile(alloc, kind, registers, &program)?)
+    let tokens = ManuallyDrop::new(lex(alloc, text).map_err(Fault::NoTokens)?);
+    let tree = parse(alloc, tokens.as_slice()).map_err(Fault::NoTree)?;
+    let checked = ManuallyDrop::new(check(alloc, tree).map_err(Fault::Refused)?);
+    let program = Program::new(alloc, text, &checked.table, &checked.core);
+    let program = ManuallyDrop::new(program.map_err(Fault::Memory)?);
+    compile(alloc, kind, registers, &program)
 }
 
-/// The native code of a program for a kind of machine; where a number is given, with at most so many registers as homes. The error is want
-/// of memory.
+/// The native code of a program for a kind of machine; where a number is given, with at most so many registers as homes.
 fn compile(
     alloc: Global,
     kind: Kind,
     registers: Option<u32>,
     program: &Program<'_>,
-) -> Result<Compiled, AllocError>
+) -> Result<Compiled, Fault>
     requires { IsOfText (source_of program.now) }
 {
     match (kind, registers) {
-        (Kind::Riscv, None) => compile_for_riscv(alloc, program),
-        (Kind::Mips, None) => compile_for_mips(alloc, program),
+        (Kind::Riscv, None) => compile_for_riscv(alloc, program).map_err(Fault::Memory),
+        (Kind::Mips, None) => compile_for_mips(alloc, program).map_err(Fault::Memory),
         (Kind::Riscv, Some(most)) => {
             generate_with::<Riscv, RiscvMeaning>(alloc, &Riscv, most, program)
         }
@@ -85,24 +86,34 @@ fn compile(
     }
 }
 
-/// The native code of a program, as it is before any pass, with at most so many registers as homes. The error is want of memory.
+/// The native code of a program, as it is before any pass, with at most so many registers as homes. Nothing of it is dropped where there
+/// is no memory.
 fn generate_with<K: CodeKind, M: Target>(
     alloc: Global,
     kind: &K,
     most: u32,
     program: &Program<'_>,
-) -> Result<Compiled, AllocError>
+) -> Result<Compiled, Fault>
     requires near { Speaks M.meaning K.vocabularies.near }
     requires middle { Speaks M.meaning K.vocabularies.middle }
     requires far { Speaks M.meaning K.vocabularies.far }
     requires homes { M.meaning.homes ≡ K.homes }
     requires accepted { IsOfText (source_of program.now) }
 {
-    let program = LoweredProgram::new(alloc, program)?;
+    let lowered = LoweredProgram::new(alloc, program).map_err(Fault::Memory)?;
+    let lowered = ManuallyDrop::new(lowered);
+    let program = lowered.fitting();
     let registers = most.min(kind.home_registers());
-    let mut table = assign(alloc, program.fitting(), registers, SLOTS)?;
-    let code = generate::<K, M>(alloc, kind, program.fitting(), &table)?;
+    let table = assign(alloc, program, registers, SLOTS).map_err(Fault::Memory)?;
+    let mut table = ManuallyDrop::new(table);
+    let code = generate::<K, M>(alloc, kind, program, &table).map_err(Fault::Memory)?;
+    let code = ManuallyDrop::new(code);
     table.bind(&code)?;
-    let image = Image { code, table };
-    Ok(Compiled { program, image })
+    Ok(Compiled {
+        program: ManuallyDrop::into_inner(lowered),
+        image: Image {
+            code: ManuallyDrop::into_inner(code),
+            table: ManuallyDrop::into_inner(table),
+        },
+    })
 }
